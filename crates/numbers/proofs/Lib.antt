@@ -1,0 +1,6 @@
+pub mod Difference
+pub mod Order
+pub mod Signs
+pub mod Size
+pub mod Rounding
+pub mod Tests

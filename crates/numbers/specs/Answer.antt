@@ -1,0 +1,12 @@
+-- What a call answers: the thing asked for, or the number of a refusal (01, "Refusal numbers"). Assumes nothing.
+use mathlib.Core.Bool.{Bool, true, false}
+use Prim.Native.Nat.{ℕ}
+
+pub data Answer (A : Type 0) : Type 0 where
+  given : A → Answer A
+  refused : ℕ → Answer A
+
+-- a condition and the refusal of an input that fails it: of several, the first that fails names the refusal
+abbrev pub need : {A : Type 0} → Bool → ℕ → Answer A → Answer A
+need true refusal answer = answer
+need false refusal answer = refused refusal

@@ -1,0 +1,4 @@
+pub mod Sign
+pub mod Rounding
+pub mod Difference
+pub mod Answer

@@ -1,0 +1,42 @@
+-- Means of Senmyo, counted from the start of the count (01, "Senmyo means"; 000, 004). Assumes nothing.
+use Prim.Native.Nat.{ℕ, _+_, _-_, _*_}
+use lib.IntN.{ℤ, pos, _-ℤ_}
+use Rattle.units.specs.declared.Fen.{Fen}
+use Rattle.units.specs.declared.Byo.{Byo}
+use Rattle.units.specs.Units.{fen, byo, fenToByo}
+
+-- accumulated years of year Y: 7,070,138 + (Y − 822)
+abbrev pub accumulatedYears : ℕ → ℕ
+accumulatedYears y = 7070138 + y - 822
+
+-- from a solstice to the next
+abbrev pub year : Fen
+year = fen 3068055
+
+-- the solstice before year Y
+abbrev pub solstice : ℕ → Fen
+solstice y = fen (year .0 * accumulatedYears y)
+
+-- the day number of a count of whole days
+abbrev pub dayNumber : ℕ → ℤ
+dayNumber days = pos days -ℤ pos 2580308749
+
+-- from a term to the next: 127,835 fen 5 byo
+abbrev pub termSpacing : Byo
+termSpacing = byo (fenToByo (fen 127835) .0 + 5)
+
+-- mid-term j: every second term from the solstice at the start of the count
+abbrev pub midTerm : ℕ → Byo
+midTerm j = byo (2 * termSpacing .0 * j)
+
+-- the number of the mid-term of month 1 of year Y, two after the solstice's, which is that of month 11
+abbrev pub rainWater : ℕ → ℕ
+rainWater y = 12 * accumulatedYears y + 2
+
+-- mean new moon k
+abbrev pub meanNewMoon : ℕ → Fen
+meanNewMoon k = fen (248057 * k)
+
+-- the mean full moon after it: 124,028 1/2 fen
+abbrev pub meanFullMoon : ℕ → Byo
+meanFullMoon k = byo (fenToByo (meanNewMoon k) .0 + (fenToByo (fen 124028) .0 + 4))

@@ -1,0 +1,14 @@
+-- Where turning one unit into another loses nothing. Assumes nothing.
+use mathlib.Core.Path.{_≡_, ap}
+use Prim.Native.Nat.{ℕ, _*_}
+use native.Mathlib.Omega.{arith}
+use Rattle.units.specs.declared.Fen.{Fen}
+use Rattle.units.specs.Units.{fen, byo, anomalySeconds, fenToByo, byoToFen, byoToAnomalySeconds}
+
+-- whole fen come back
+pub fen-back : (f : Fen) → byoToFen (fenToByo f) ≡ f
+fen-back f = ap fen (omega arith)
+
+-- half fen, of 4 byo, are whole in anomaly seconds: 50 of them
+pub half-fen-exact : (n : ℕ) → byoToAnomalySeconds (byo (n * 4)) ≡ anomalySeconds (n * 50)
+half-fen-exact n = ap anomalySeconds (omega arith)
