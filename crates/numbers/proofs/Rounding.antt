@@ -1,18 +1,16 @@
 -- Laws of `floor` and `nearest`: they are what their names say, they keep the order, and along a line they stay between the ends.
--- Assumes nothing.
-use mathlib.Core.Path.{_≡_, refl, sym, ap, _∙_}
+use mathlib.Core.Path.{_≡_, refl}
 use mathlib.Core.List.{[], _∷_, map}
 use mathlib.Core.Bool.{Bool, _&&_}
-use Prim.Native.Nat.{ℕ, zero, suc, _+_, _*_, _/_, _%_, _<_, _≤_}
+use Prim.Native.Nat.{ℕ, suc, _+_, _*_, _/_, _<_, _≤_}
 use native.Mathlib.Nat.{add-mul, suc-mul, mul-le-mul-left, one-mul, zero-mul, mod-lt, div-add-mod', div-mul-le-self, le-div-iff-mul-le, le-trans}
 use native.Mathlib.Omega.{arith}
 use lib.Dec.{T, leb→le, le→leb}
-use lib.IntN.{ℤ, pos, negsuc, negℤ, _+ℤ_, _*ℤ_}
+use lib.IntN.{ℤ, pos, negsuc, _+ℤ_, _*ℤ_}
 use lib.Signed.{_≤ℤ_, leZ, leZ-yes}
 use mir.Facts.{and-yes}
 use Rattle.numbers.specs.Sign.{plus, minus}
 use Rattle.numbers.specs.Rounding.{floor, nearest}
-use Rattle.numbers.specs.Difference.{Is}
 use Rattle.numbers.proofs.Difference.{is-pos, is-neg, is-add, is-mul, is-parts, is-sub}
 use Rattle.numbers.proofs.Order.{is-le, le-is, ≤ℤ-trans}
 
@@ -34,6 +32,10 @@ nearest-mono {x} {y} d p h =
     floor-mono (2 * d) (omega arith)
     (is-le (is-add (is-mul 2 (is-parts x)) (is-pos d)) (is-add (is-mul 2 (is-parts y)) (is-pos d))
     (omega (arith, le-is (is-parts x) (is-parts y) h)))
+
+pub nearest-pos : (n d : ℕ) → pos 0 ≤ℤ nearest (pos n) d
+unfolding nearest
+nearest-pos n d = is-le (is-pos 0) (is-pos _) (omega arith)
 
 -- the floor is at most the quotient ..
 pub floor-low : (z : ℤ) (d : ℕ) → 0 < d → (floor z d *ℤ pos d) ≤ℤ z

@@ -1,12 +1,11 @@
--- A signed number by its sign, as the code's test `0 <= z` tells it. Assumes nothing.
-use mathlib.Core.Path.{_≡_, refl, sym, ap}
+-- A signed number by its sign, as the code's test `0 <= z` tells it.
+use mathlib.Core.Path.{_≡_, refl, ap}
 use mathlib.Core.Bool.{true, false}
 use Prim.Native.Nat.{ℕ, zero, suc}
 use native.Mathlib.Omega.{arith}
 use lib.Dec.{leb·zero}
 use lib.IntN.{ℤ, pos, negsuc, _-ℤ_}
 use lib.Signed.{leZ, mag}
-use Rattle.numbers.specs.Difference.{Is}
 use Rattle.numbers.proofs.Difference.{is-equal}
 
 pub not-below : (z : ℤ) → leZ (pos 0) z ≡ true → z ≡ pos (mag z)
@@ -20,7 +19,7 @@ below (negsuc n) e = refl
 -- −1 − z of a z below zero
 pub flipped : (z : ℤ) → leZ (pos 0) z ≡ false → negsuc 0 -ℤ z ≡ pos (mag z)
 flipped (pos n) e = let clash : _≡_ {A = ℕ} 0 1 = cc (leb·zero n) in absurd (omega arith)
-flipped (negsuc n) e = is-equal {z = pos n} {a = suc n} {b = 1} (record { less = omega arith })
+flipped (negsuc n) e = is-equal {z = pos n} {a = suc n} {b = 1} (record { difference = omega arith })
 
 -- −1 − n
 pub one-below : (n : ℕ) → negsuc 0 -ℤ pos n ≡ negsuc n

@@ -1,5 +1,5 @@
--- How large a signed number can be, from what it is made of; a small one fits its word. Assumes nothing.
-use mathlib.Core.Path.{_≡_, refl, ap}
+-- How large a signed number can be, from what it is made of; a small one fits its word.
+use mathlib.Core.Path.{_≡_, refl}
 use Prim.Native.Nat.{ℕ, zero, suc, _+_, _*_, _<_, _≤_, _^_}
 use native.Mathlib.Nat.{mul-le-mul}
 use native.Mathlib.Omega.{arith}
@@ -8,7 +8,7 @@ use lib.Signed.{mag, _≤ℤ_}
 use mir.Syntax.{w64}
 use mir.Val.{SFits}
 use Rattle.numbers.specs.Sign.{whole, minus}
-use Rattle.numbers.specs.Difference.{Is, Less}
+use Rattle.numbers.specs.Difference.{Difference}
 use Rattle.numbers.proofs.Difference.{is-pos, is-neg, is-add, is-parts}
 use Rattle.numbers.proofs.Order.{le-is}
 
@@ -21,7 +21,7 @@ size-parts (pos zero) = refl
 size-parts (pos (suc n)) = omega arith
 size-parts (negsuc n) = omega arith
 
-size-told : (z : ℤ) (a b : ℕ) → Less z a b → natAbs z ≤ a + b
+size-told : (z : ℤ) (a b : ℕ) → Difference z a b → natAbs z ≤ a + b
 size-told (pos n) a b h = omega arith
 size-told (negsuc n) a b h = omega arith
 
@@ -36,7 +36,7 @@ small-add {x} {y} s t =
             arith,
             size-parts x,
             size-parts y,
-            size-told (x +ℤ y) _ _ (is-add (is-parts x) (is-parts y) .less),
+            size-told (x +ℤ y) _ _ (is-add (is-parts x) (is-parts y) .difference),
           );
     }
 

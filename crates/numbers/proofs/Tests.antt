@@ -1,6 +1,6 @@
--- A rule shown at every number of a range, or at every row of a table, by one test that is computed. Assumes nothing.
-use mathlib.Core.Path.{_≡_, subst, sym, _∙_}
-use mathlib.Core.Bool.{Bool, true, false, _&&_}
+-- A rule shown at every number of a range, or at every row of a table, by one test that is computed.
+use mathlib.Core.Path.{_≡_}
+use mathlib.Core.Bool.{Bool, true, _&&_}
 use mathlib.Core.List.{List}
 use Prim.Native.Nat.{ℕ, zero, suc, _+_, _-_, _<_, _≤_}
 use native.Mathlib.Nat.{add-zero}

@@ -1,4 +1,4 @@
--- What a call answers: the thing asked for, or the number of a refusal (01, "Refusal numbers"). Assumes nothing.
+-- What a call answers: the thing asked for, or the number of a refusal (01, "Refusal numbers").
 use mathlib.Core.Bool.{Bool, true, false}
 use Prim.Native.Nat.{ℕ}
 

@@ -1,13 +1,13 @@
--- The bridge between signed definitions and unsigned code. Assumes nothing.
+-- The bridge between signed definitions and unsigned code.
 use mathlib.Core.Path.{_≡_}
-use Prim.Native.Nat.{ℕ, _+_, _<_, _^_}
-use lib.IntN.{ℤ, pos, negsuc, natAbs}
+use Prim.Native.Nat.{ℕ, _+_}
+use lib.IntN.{ℤ, pos, negsuc}
 
--- z is a less b, by the sign of z
-abbrev pub Less : ℤ → ℕ → ℕ → Type 0
-Less (pos n) a b = a ≡ b + n
-Less (negsuc n) a b = b ≡ a + n + 1
+-- z is a − b, by the sign of z
+abbrev pub Difference : ℤ → ℕ → ℕ → Type 0
+Difference (pos n) a b = a ≡ b + n
+Difference (negsuc n) a b = b ≡ a + n + 1
 
--- z is a less b; a record, so that the three are read off a proof
+-- the same as a record, so that z, a and b are read off a proof
 pub record Is (z : ℤ) (a b : ℕ) : Type 0 where
-  pub less : Less z a b
+  pub difference : Difference z a b

@@ -1,4 +1,4 @@
--- Signed whole numbers as a page prints them. Assumes nothing.
+-- Signed whole numbers as a page prints them.
 use Prim.Native.Nat.{ℕ}
 use lib.IntN.{ℤ, pos, negsuc, negℤ}
 

@@ -1,7 +1,6 @@
 ghost use mathlib.Core.Path.{_≡_};
-ghost use Prim.Native.Nat.{_<_, _^_};
-ghost use lib.IntN.{natAbs};
-ghost use Rattle.numbers.specs.Rounding.{floor, nearest};
+ghost use Prim.Native.Nat.{_<_};
+ghost use Rattle.numbers.specs.Rounding.{floor, nearest, Roundable};
 
 // The largest whole number that is at most z / divisor.
 pub fn floor_of(z: i64, divisor: u64) -> i64
@@ -17,7 +16,7 @@ pub fn floor_of(z: i64, divisor: u64) -> i64
 
 // z / divisor to the nearest whole number, halves upward.
 pub fn nearest_of(z: i64, divisor: u64) -> i64
-    requires { ⌜ (0 < divisor) × ((divisor < 2 ^ 61) × (natAbs z < 2 ^ 61)) ⌝ }
+    requires { ⌜ Roundable z divisor ⌝ }
     ensures { λ r. ⌜ r ≡ nearest z divisor ⌝ }
 {
     floor_of(z * 2 + divisor as i64, 2 * divisor)

@@ -1,4 +1,4 @@
--- The definitions at 01's worked figures. Assumes nothing.
+-- The definitions at 01's worked figures.
 use mathlib.Core.Path.{_≡_, refl}
 use mathlib.Core.Bool.{Bool, _&&_, true}
 use mathlib.Core.List.{List, [], _∷_, map}
@@ -7,15 +7,15 @@ use lib.Dec.{leb, ltb}
 use lib.IntN.{ℤ}
 use Rattle.numbers.specs.Sign.{plus, minus, whole}
 use Rattle.numbers.specs.Rounding.{nearest}
-use Rattle.units.specs.Units.{fen, byo, fenToByo, byoToFen, byoToAnomalySeconds, wholeDays, fenOfDay}
+use Rattle.units.specs.Units.{fen, fenToByo, byoToFen, byoToAnomalySeconds, wholeDays, fenOfDay}
 use Rattle.senmyo.specs.Means.{solstice, dayNumber, midTerm, rainWater, meanNewMoon}
-use Rattle.senmyo.specs.Sun.{solsticeTerm, laterTerms, placeIn, sunPlace, afterDays, onDay, sunShare, sunOf}
-use Rattle.senmyo.specs.Moon.{upperRows, lowerRows, shareOf, inHalf, halfOf, moonOf}
+use Rattle.sun.specs.Sun.{solsticeRow, laterRows, placeIn, sunPlace, afterDays, onDay, sunShare, sunOf}
+use Rattle.moon.specs.Moon.{upperRows, lowerRows, shareOf, inHalf, halfOf, moonOf}
 use Rattle.senmyo.specs.Phases.{corrections, newMoon, advancedDay, newMoonDay, fullMoon, fullMoonFen}
 
 -- both corrections at mean new moon k
 sunAt : ℕ → ℤ
-unfolding sunOf sunShare afterDays onDay sunPlace placeIn solsticeTerm laterTerms nearest
+unfolding sunOf sunShare afterDays onDay sunPlace placeIn solsticeRow laterRows nearest
 sunAt k = sunOf (fenToByo (meanNewMoon k))
 
 moonAt : ℕ → ℤ

@@ -1,9 +1,10 @@
--- The means of Senmyo agree with each other as 01 says. Assumes nothing.
+-- The means of Senmyo agree with each other as 01 says.
 use mathlib.Core.Path.{_≡_, refl, ap}
 use Prim.Native.Nat.{ℕ, _+_, _*_}
 use native.Mathlib.Omega.{arith}
-use Rattle.units.specs.Units.{fen, byo, anomalySeconds, fenToByo, byoToAnomalySeconds}
-use Rattle.senmyo.specs.Means.{accumulatedYears, year, solstice, termSpacing, midTerm, rainWater, meanNewMoon, meanFullMoon}
+use Rattle.units.specs.Units.{byo, anomalySeconds, fenToByo, byoToAnomalySeconds}
+use Rattle.sun.specs.Sun.{year}
+use Rattle.senmyo.specs.Means.{accumulatedYears, solstice, termSpacing, midTerm, rainWater, meanNewMoon, meanFullMoon}
 
 -- mid-terms are 255,671 1/4 fen apart
 mid-term-spacing : midTerm 1 ≡ byo (255671 * 8 + 2)

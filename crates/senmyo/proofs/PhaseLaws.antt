@@ -1,50 +1,28 @@
 -- Laws of true moments: no correction reaches back before the start of the count, so that nothing is lost where a moment is told by a natural.
--- Assumes nothing.
-use mathlib.Core.Path.{_≡_, refl, sym, ap, _∙_}
+use mathlib.Core.Path.{_≡_, refl, ap, _∙_}
 use mathlib.Core.Bool.{Bool, true, false}
-use Prim.Native.Nat.{ℕ, zero, suc, _+_, _-_, _*_, _/_, _%_, _<_, _≤_, _^_}
-use native.Mathlib.Nat.{mod-eq-of-lt, div-eq-of-lt}
+use Prim.Native.Nat.{ℕ, _+_, _*_, _/_, _<_, _≤_, _^_}
 use native.Mathlib.Omega.{arith}
 use borrow.Author.Tests.{ltb-true, ltb-false, leb-true, leb-false, le-leb, lt-leb}
-use lib.Dec.{T, ltb, leb, le→leb}
-use lib.IntN.{ℤ, pos, negsuc, natAbs, _+ℤ_, _*ℤ_}
-use lib.Signed.{_≤ℤ_, leZ-yes}
-use Rattle.numbers.specs.Sign.{plus, minus, whole}
-use Rattle.numbers.specs.Rounding.{nearest}
+use lib.Dec.{ltb, leb}
+use lib.IntN.{ℤ, pos, negsuc, _+ℤ_, _*ℤ_}
+use lib.Signed.{_≤ℤ_}
+use Rattle.numbers.specs.Sign.{minus, whole}
 use Rattle.numbers.specs.Difference.{Is}
 use Rattle.numbers.proofs.Difference.{is-pos, is-neg, is-add, is-mul, is-parts, is-same, is-one, is-whole}
-use Rattle.numbers.proofs.Order.{is-le, le-is, ≤ℤ-trans}
+use Rattle.numbers.proofs.Order.{is-le, le-is}
 use Rattle.numbers.proofs.Size.{Small, small-between}
 use Rattle.units.specs.declared.Byo.{Byo}
 use Rattle.units.specs.declared.Fen.{Fen}
 use Rattle.units.specs.declared.AnomalySecond.{AnomalySecond}
-use Rattle.units.specs.Units.{fen, byo, fenToByo, byoToFen, byoToAnomalySeconds, wholeDays, fenOfDay}
+use Rattle.units.specs.Units.{fen, fenToByo, byoToFen, byoToAnomalySeconds, wholeDays, fenOfDay}
 use Rattle.senmyo.specs.Means.{meanNewMoon, meanFullMoon}
-use Rattle.senmyo.specs.Sun.{solsticeTerm, laterTerms, terms, afterDays, onDay, place, placeIn, sunPlace, sunShare, sunOf}
-use Rattle.senmyo.specs.Moon.{upperRows, shareOf, inHalf, halfOf, moonOf}
+use Rattle.sun.specs.Sun.{sunOf}
+use Rattle.moon.specs.Moon.{moonOf}
 use Rattle.senmyo.specs.Phases.{corrections, newMoon, advancedDay, fullMoon}
 use Rattle.senmyo.specs.Room.{Movable}
-use Rattle.senmyo.proofs.Terms.{place-here}
-use Rattle.senmyo.proofs.SunBounds.{sun-bounds}
-use Rattle.senmyo.proofs.MoonRows.{moon-upper, moon-bounds}
-
-nearest-pos : (x d : ℕ) → pos 0 ≤ℤ nearest (pos x) d
-unfolding nearest
-nearest-pos x d = is-le (is-pos 0) (is-pos _) (omega arith)
-
--- on the first day of the count neither correction is below zero
-sun-early : (m : Byo) → m .0 < 67200 → pos 0 ≤ℤ sunOf m
-unfolding sunOf sunPlace sunShare afterDays onDay solsticeTerm
-sun-early m h =
-    let here = place-here solsticeTerm laterTerms (m .0) (omega arith) in
-    rw (mod-eq-of-lt {n = m .0} {m = 24544440} (omega arith), here, div-eq-of-lt h, mod-eq-of-lt h) (nearest-pos _ _)
-
-moon-early : (a : AnomalySecond) → a .0 < 840000 → pos 0 ≤ℤ moonOf a
-unfolding halfOf inHalf shareOf upperRows
-moon-early a h =
-    let same : a .0 % 231458_19 ≡ a .0 = mod-eq-of-lt (omega arith) in
-    let small : 2 * a .0 < 1680000 = omega arith in
-    rw (moon-upper a (omega arith), same, div-eq-of-lt small, mod-eq-of-lt small) (nearest-pos _ _)
+use Rattle.sun.proofs.Bounds.{sun-bounds, sun-first-day}
+use Rattle.moon.proofs.Rows.{moon-bounds, moon-first-day}
 
 -- a moment with one correction, and with both
 abbrev pub bySun : Byo → ℤ
@@ -76,7 +54,7 @@ after-start m = by-day (ltb (m .0) 67200) refl
     by-day : (b : Bool) → ltb (m .0) 67200 ≡ b → AfterStart m
     by-day true e =
         let early = ltb-true (m .0) 67200 e in
-        far-enough m 0 0 (omega arith) (sun-early m early) (moon-early _ (omega arith))
+        far-enough m 0 0 (omega arith) (sun-first-day m early) (moon-first-day _ (omega arith))
     by-day false e =
         far-enough m 1526 3195 (omega (arith, ltb-false (m .0) 67200 e)) (sun-bounds m .from) (moon-bounds _ .from)
 

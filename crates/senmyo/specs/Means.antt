@@ -1,17 +1,14 @@
--- Means of Senmyo, counted from the start of the count (01, "Senmyo means"; 000, 004). Assumes nothing.
+-- Means of Senmyo, counted from the start of the count (01, "Senmyo means"; 000, 004).
 use Prim.Native.Nat.{ℕ, _+_, _-_, _*_}
 use lib.IntN.{ℤ, pos, _-ℤ_}
 use Rattle.units.specs.declared.Fen.{Fen}
 use Rattle.units.specs.declared.Byo.{Byo}
 use Rattle.units.specs.Units.{fen, byo, fenToByo}
+use Rattle.sun.specs.Sun.{year}
 
 -- accumulated years of year Y: 7,070,138 + (Y − 822)
 abbrev pub accumulatedYears : ℕ → ℕ
 accumulatedYears y = 7070138 + y - 822
-
--- from a solstice to the next
-abbrev pub year : Fen
-year = fen 3068055
 
 -- the solstice before year Y
 abbrev pub solstice : ℕ → Fen

@@ -1,4 +1,4 @@
--- True new moons and full moons of Senmyo (01, "Months and leap" and the first sentence of "Lunar eclipse"). Assumes nothing.
+-- True new moons and full moons of Senmyo (01, "Months and leap" and the first sentence of "Lunar eclipse").
 use mathlib.Core.Bool.{true, false}
 use Prim.Native.Nat.{ℕ, _+_}
 use lib.Dec.{leb}
@@ -8,8 +8,8 @@ use Rattle.units.specs.declared.Fen.{Fen}
 use Rattle.units.specs.declared.Byo.{Byo}
 use Rattle.units.specs.Units.{fen, byo, fenToByo, byoToFen, byoToAnomalySeconds, wholeDays, fenOfDay}
 use Rattle.senmyo.specs.Means.{meanNewMoon, meanFullMoon}
-use Rattle.senmyo.specs.Sun.{sunOf}
-use Rattle.senmyo.specs.Moon.{moonOf}
+use Rattle.sun.specs.Sun.{sunOf}
+use Rattle.moon.specs.Moon.{moonOf}
 
 -- Sun + Moon at a mean moment, in fen; both are taken at that same moment
 unfoldable pub corrections : Byo → ℤ

@@ -1,6 +1,3 @@
-pub mod moon;
-pub mod sun;
-
 pub use moon::moon_of;
 pub use sun::sun_of;
 use units::Byo;

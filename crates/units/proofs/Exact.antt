@@ -1,4 +1,4 @@
--- Where turning one unit into another loses nothing. Assumes nothing.
+-- Where turning one unit into another loses nothing.
 use mathlib.Core.Path.{_≡_, ap}
 use Prim.Native.Nat.{ℕ, _*_}
 use native.Mathlib.Omega.{arith}

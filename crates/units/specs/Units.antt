@@ -1,4 +1,4 @@
--- The units of Senmyo and what each is of another (01, "Units"). Assumes nothing.
+-- The units of Senmyo and what each is of another (01, "Units").
 use Prim.Native.Nat.{ℕ, _*_, _/_, _%_}
 use Rattle.units.specs.declared.Fen.{Fen}
 use Rattle.units.specs.declared.Byo.{Byo}

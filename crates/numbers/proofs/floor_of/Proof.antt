@@ -1,16 +1,14 @@
 -- `numbers::floor_of` meets its contract: of z ≥ 0 it divides z, and of z < 0 it divides −1 − z, as the definition does.
--- Assumes nothing.
 use mathlib.Core.Path.{_≡_}
-use Prim.Native.Nat.{_≤_, _<_, _/_, _^_}
+use Prim.Native.Nat.{_<_, _/_, _^_}
 use native.Mathlib.Nat.{div-le-self}
 use native.Mathlib.Omega.{arith}
-use lib.IntN.{pos, negsuc, natAbs, _-ℤ_}
+use lib.IntN.{pos, negsuc, _-ℤ_}
 use lib.Signed.{mag}
 use mir.Syntax.{w64}
-use mir.Val.{SFits, Fits}
+use mir.Val.{SFits}
 use mir.Facts.{toZ-ofZ, toZ-pos}
 use borrow.Author.Needs.{needs}
-use Rattle.numbers.specs.Rounding.{floor}
 use Rattle.numbers.proofs.Signs.{not-below, below, flipped, one-below}
 use Rattle.numbers.proofs.floor_of.Statement.{statement}
 use Rattle.numbers.proofs.floor_of.Tie as tie

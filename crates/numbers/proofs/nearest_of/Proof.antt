@@ -1,6 +1,4 @@
 -- `numbers::nearest_of` meets its contract: it asks `floor_of` for the floor by which the definition rounds.
--- Assumes nothing.
-use mathlib.Core.Path.{_≡_}
 use Prim.Native.Nat.{_<_, _^_}
 use native.Mathlib.Omega.{arith}
 use lib.IntN.{pos, _+ℤ_, _*ℤ_}

@@ -1,5 +1,4 @@
 -- `senmyo::advanced_day` meets its contract: its test is the definition's.
--- Assumes nothing.
 use mathlib.Core.Path.{ap}
 use Prim.Native.Nat.{_+_}
 use borrow.Author.Needs.{needs}

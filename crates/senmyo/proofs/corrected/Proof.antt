@@ -1,5 +1,4 @@
 -- `senmyo::corrected` meets its contract: neither correction reaches back before the start of the count, and one after the other is both at once.
--- Assumes nothing.
 use mathlib.Core.Path.{_≡_, _∙_}
 use native.Mathlib.Omega.{arith}
 use lib.IntN.{pos}
@@ -9,8 +8,8 @@ use mir.Facts.{toZ-ofZ}
 use borrow.Author.Needs.{needs}
 use Rattle.numbers.proofs.Size.{small-fits}
 use Rattle.units.specs.Units.{byoToAnomalySeconds}
-use Rattle.senmyo.specs.Sun.{sunOf}
-use Rattle.senmyo.specs.Moon.{moonOf}
+use Rattle.sun.specs.Sun.{sunOf}
+use Rattle.moon.specs.Moon.{moonOf}
 use Rattle.senmyo.proofs.PhaseLaws.{bySun, sun-small, moon-small, sun-movable, moon-movable, both-at-once}
 use Rattle.senmyo.proofs.corrected.Statement.{statement}
 use Rattle.senmyo.proofs.corrected.Tie as tie

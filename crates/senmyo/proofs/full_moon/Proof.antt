@@ -1,5 +1,4 @@
 -- `senmyo::full_moon` meets its contract: the mean full moon, corrected, is a natural.
--- Assumes nothing.
 use mathlib.Core.Path.{ap}
 use native.Mathlib.Omega.{arith}
 use borrow.Author.Needs.{needs}

@@ -1,5 +1,4 @@
 -- `senmyo::full_moon_fen` meets its contract: it is the whole fen of the exact full moon.
--- Assumes nothing.
 use borrow.Author.Needs.{needs}
 use Rattle.senmyo.proofs.full_moon_fen.Statement.{statement}
 use Rattle.senmyo.proofs.full_moon_fen.Tie as tie

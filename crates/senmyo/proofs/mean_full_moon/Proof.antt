@@ -1,6 +1,4 @@
 -- `senmyo::mean_full_moon` meets its contract: it adds 124,028 1/2 fen, to the mean new moon.
--- Assumes nothing.
-use mathlib.Core.Path.{_≡_, ap}
 use native.Mathlib.Omega.{arith}
 use borrow.Author.Needs.{needs}
 use Rattle.senmyo.proofs.mean_full_moon.Statement.{statement}

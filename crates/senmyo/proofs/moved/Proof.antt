@@ -1,5 +1,4 @@
 -- `senmyo::moved` meets its contract: the sum fits its word and is not below zero.
--- Assumes nothing.
 use mathlib.Core.Path.{_≡_}
 use Prim.Native.Nat.{_<_, _^_}
 use native.Mathlib.Omega.{arith}

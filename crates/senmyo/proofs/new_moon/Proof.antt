@@ -1,5 +1,4 @@
 -- `senmyo::new_moon` meets its contract: a mean new moon is of whole fen, and so it is when it is corrected.
--- Assumes nothing.
 use mathlib.Core.Path.{_∙_}
 use native.Mathlib.Omega.{arith}
 use borrow.Author.Needs.{needs}

@@ -1,5 +1,4 @@
 -- `senmyo::new_moon_day` meets its contract: it advances the true new moon.
--- Assumes nothing.
 use borrow.Author.Needs.{needs}
 use Rattle.senmyo.proofs.new_moon_day.Statement.{statement}
 use Rattle.senmyo.proofs.new_moon_day.Tie as tie

@@ -1,0 +1,177 @@
+-- Laws of the Moon's rows: what a row gives fits its word, and lies from −3195 to 3225.
+use mathlib.Core.Path.{_≡_, refl, sym, _∙_}
+use mathlib.Core.Bool.{Bool, true, false, _&&_}
+use Prim.Native.Nat.{ℕ, _+_, _-_, _*_, _/_, _%_, _<_, _≤_, _^_}
+use native.Mathlib.Nat.{mul-le-mul, le-of-lt, mod-eq-of-lt, div-eq-of-lt}
+use native.Mathlib.Omega.{arith}
+use borrow.Author.Tests.{leb-true, lt-ltb, le-ltb, ltb-true, ltb-false}
+use lib.Dec.{T, leb, ltb, leb→le}
+use lib.IntN.{ℤ, pos, negℤ, natAbs, _+ℤ_, _*ℤ_, negℤ-+ℤ}
+use lib.ListN.{length, getD}
+use lib.Signed.{_≤ℤ_}
+use mir.Facts.{and-yes}
+use Rattle.numbers.specs.Sign.{plus, minus}
+use Rattle.numbers.specs.Rounding.{nearest}
+use Rattle.numbers.proofs.Difference.{is-neg, is-mul, is-parts, is-equal}
+use Rattle.numbers.proofs.Size.{Small, small-add, small-mul}
+use Rattle.numbers.proofs.Rounding.{Between, between, between-yes, between-ends, nearest-pos}
+use Rattle.numbers.proofs.Tests.{every, at-each-row}
+use Rattle.units.specs.declared.AnomalySecond.{AnomalySecond}
+use Rattle.units.specs.Units.{dayFen}
+use Rattle.moon.specs.declared.Change.{Change}
+use Rattle.moon.specs.declared.Change.the-variants.{Gain, Loss, GainThenLoss, FirstLoss}
+use Rattle.moon.specs.declared.MoonRow.{MoonRow}
+use Rattle.moon.specs.declared.Share.{Share}
+use Rattle.moon.specs.Moon.{upperRows, lowerRows, rows, noRow, halfSeconds, part, shareOf, inHalf, signed, halfOf, moonOf}
+use Rattle.moon.specs.Room.{Part}
+
+-- (−z) n is −(z n)
+pub neg-times : (z : ℤ) (n : ℕ) → negℤ z *ℤ pos n ≡ negℤ (z *ℤ pos n)
+neg-times z n = sym (is-equal (is-mul n (is-neg (is-parts z)))) ∙ is-equal (is-neg (is-mul n (is-parts z)))
+
+-- a sign before a line is a sign before each of its numbers
+signed-line : (s : Bool) (a b : ℤ) (n : ℕ) → signed s (a +ℤ b *ℤ pos n) ≡ signed s a +ℤ signed s b *ℤ pos n
+signed-line true a b n = refl
+signed-line false a b n = rw (neg-times b n) (negℤ-+ℤ a (b *ℤ pos n))
+
+-- ---- a row's part of a fen fits its word
+
+-- the two products of a part, with a change of 32 bits
+pub record Products (sum change over length : ℕ) : Type 0 where
+  pub whole : sum * length ≤ 2 ^ 33 * 1680000
+  pub share : change * over ≤ 2 ^ 32 * 1680000
+
+pub products : {sum change over length : ℕ} → Part sum over length → change < 2 ^ 32 → Products sum change over length
+products r c = record { whole = mul-le-mul (le-of-lt (r .sum-small)) (r .length-small); share = mul-le-mul (le-of-lt c) (r .over-small) }
+
+pub record Sized (s : Share) : Type 0 where
+  pub some : 0 < s .divisor
+  pub few : s .divisor ≤ 1680000
+  pub size : Small (s .numerator) (5000 * 1680000 + 1000 * 1680000)
+
+part-sized : (sum : ℕ) (change : ℤ) (t length : ℕ) → sum ≤ 5000 → natAbs change ≤ 1000 → t ≤ 1680000 → 0 < length → length ≤ 1680000 → Sized (part sum change t length)
+part-sized sum change t length s c h some few =
+    let whole : Small (pos (sum * length)) (5000 * 1680000) = record { size = mul-le-mul s few } in
+    let rate : Small change 1000 = record { size = c } in
+    record { some = some; few = few; size = small-add whole (small-mul t 1680000 h rate) }
+
+-- gains and losses of at most 1000 fen
+abbrev small : Change → Bool
+small (Gain gain) = leb (natAbs (plus gain)) 1000
+small (Loss loss) = leb (natAbs (minus loss)) 1000
+small (GainThenLoss gain loss) = leb (natAbs (plus gain)) 1000 && leb (natAbs (minus loss)) 1000
+small (FirstLoss loss) = leb (natAbs (minus loss)) 1000
+
+share-sized : (change : Change) (sum t : ℕ) → T (small change) → sum ≤ 4000 → t < 1680000 → Sized (shareOf change sum t)
+unfolding shareOf
+share-sized (Gain gain) sum t c s h = part-sized sum (plus gain) t 1680000 (omega arith) (leb→le _ _ c) (omega arith) (omega arith) (omega arith)
+share-sized (Loss loss) sum t c s h = part-sized sum (minus loss) t 1680000 (omega arith) (leb→le _ _ c) (omega arith) (omega arith) (omega arith)
+share-sized (GainThenLoss gain loss) sum t c s h = by-part (leb t 1493000)
+  where
+    both : T (leb (natAbs (plus gain)) 1000) × T (leb (natAbs (minus loss)) 1000)
+    both = and-yes (leb (natAbs (plus gain)) 1000) (leb (natAbs (minus loss)) 1000) c
+
+    by-part : (b : Bool) → Sized (elim b as (λ _. Share) [ true ↦ part sum (plus gain) t 1493000 | false ↦ part (sum + gain) (minus loss) (t - 1493000) 187000 ])
+    by-part true = part-sized sum (plus gain) t 1493000 (omega arith) (leb→le _ _ (both .0)) (omega arith) (omega arith) (omega arith)
+    by-part false =
+        part-sized (sum + gain) (minus loss) (t - 1493000) 187000 (omega (arith, leb→le gain 1000 (both .0))) (leb→le _ _ (both .1)) (omega arith) (omega arith) (omega arith)
+share-sized (FirstLoss loss) sum t c s h = part-sized sum (minus loss) t 1305800 (omega arith) (leb→le _ _ c) (omega arith) (omega arith) (omega arith)
+
+-- ---- a row's part of a fen, rounded, lies from −3195 to 3225: it runs along a line whose ends are tested
+
+abbrev inside : ℤ → Bool
+inside z = between (minus 3195) z (plus 3225)
+
+-- both ends of sum + change × t/length, t from 0 to last, under a sign
+abbrev ends : Bool → ℕ → ℤ → ℕ → ℕ → Bool
+ends s sum change last length =
+    inside (nearest (signed s (pos (sum * length))) length) && inside (nearest (signed s (pos (sum * length)) +ℤ signed s change *ℤ pos last) length)
+
+between-parts : (s : Bool) (sum : ℕ) (change : ℤ) (last length t : ℕ) → 0 < length → T (ends s sum change last length) → t ≤ last → Between (minus 3195) (nearest (signed s (part sum change t length .numerator)) length) (plus 3225)
+between-parts s sum change last length t some tested h =
+    let a = nearest (signed s (pos (sum * length))) length in
+    let b = nearest (signed s (pos (sum * length)) +ℤ signed s change *ℤ pos last) length in
+    let both = and-yes (inside a) (inside b) tested in
+    rw (signed-line s (pos (sum * length)) change t)
+    (between-ends (minus 3195) (plus 3225) (signed s (pos (sum * length))) (signed s change) last length some (between-yes _ _ _ (both .0)) (between-yes _ _ _ (both .1)) t h)
+
+abbrev rowEnds : Bool → Change → ℕ → Bool
+rowEnds s (Gain gain) sum = ends s sum (plus gain) 1680000 1680000
+rowEnds s (Loss loss) sum = ends s sum (minus loss) 1680000 1680000
+rowEnds s (GainThenLoss gain loss) sum = ends s sum (plus gain) 1493000 1493000 && ends s (sum + gain) (minus loss) 187000 187000
+rowEnds s (FirstLoss loss) sum = ends s sum (minus loss) 1680000 1305800
+
+share-between : (s : Bool) (change : Change) (sum t : ℕ) → T (rowEnds s change sum) → t < 1680000 → Between (minus 3195) (nearest (signed s (shareOf change sum t .numerator)) (shareOf change sum t .divisor)) (plus 3225)
+unfolding shareOf
+share-between s (Gain gain) sum t tested h = between-parts s sum (plus gain) 1680000 1680000 t (omega arith) tested (omega arith)
+share-between s (Loss loss) sum t tested h = between-parts s sum (minus loss) 1680000 1680000 t (omega arith) tested (omega arith)
+share-between s (GainThenLoss gain loss) sum t tested h = by-part (leb t 1493000) refl
+  where
+    both : T (ends s sum (plus gain) 1493000 1493000) × T (ends s (sum + gain) (minus loss) 187000 187000)
+    both = and-yes (ends s sum (plus gain) 1493000 1493000) (ends s (sum + gain) (minus loss) 187000 187000) tested
+
+    by-part : (b : Bool) → leb t 1493000 ≡ b → Between (minus 3195) (nearest (signed s ((elim b as (λ _. Share) [ true ↦ part sum (plus gain) t 1493000 | false ↦ part (sum + gain) (minus loss) (t - 1493000) 187000 ]) .numerator)) ((elim b as (λ _. Share) [ true ↦ part sum (plus gain) t 1493000 | false ↦ part (sum + gain) (minus loss) (t - 1493000) 187000 ]) .divisor)) (plus 3225)
+    by-part true e = between-parts s sum (plus gain) 1493000 1493000 t (omega arith) (both .0) (leb-true t 1493000 e)
+    by-part false e = between-parts s (sum + gain) (minus loss) 187000 187000 (t - 1493000) (omega arith) (both .1) (omega arith)
+share-between s (FirstLoss loss) sum t tested h = between-parts s sum (minus loss) 1680000 1305800 t (omega arith) tested (omega arith)
+
+-- ---- both at every row, by one test over each table
+
+abbrev rowTest : Bool → MoonRow → Bool
+rowTest upper w = small (w .0) && leb (w .1) 4000 && rowEnds upper (w .0) (w .1)
+
+row-tested : (upper : Bool) (i : ℕ) → i < 14 → T (rowTest upper (getD (rows upper) i noRow))
+unfolding every nearest upperRows lowerRows
+row-tested true i h = at-each-row (rowTest true) noRow upperRows tt i h
+row-tested false i h = at-each-row (rowTest false) noRow lowerRows tt i h
+
+record Row (upper : Bool) (w : MoonRow) : Type 0 where
+  change-small : T (small (w .0))
+  sum-small : w .1 ≤ 4000
+  tested : T (rowEnds upper (w .0) (w .1))
+
+row-at : (upper : Bool) (h : ℕ) → h < 231458_19 → Row upper (getD (rows upper) (h / halfSeconds dayFen) noRow)
+row-at upper h g =
+    let w : MoonRow = getD (rows upper) (h / halfSeconds dayFen) noRow in
+    let (sizes, tested) = and-yes (small (w .0) && leb (w .1) 4000) (rowEnds upper (w .0) (w .1)) (row-tested upper (h / halfSeconds dayFen) (omega arith)) in
+    let (change, sum) = and-yes (small (w .0)) (leb (w .1) 4000) sizes in
+    record { change-small = change; sum-small = leb→le _ _ sum; tested = tested }
+
+pub half-sized : (upper : Bool) (h : ℕ) → h < 231458_19 → Sized (inHalf upper h)
+unfolding inHalf
+half-sized upper h g =
+    let r = row-at upper h g in
+    share-sized _ _ _ (r .change-small) (r .sum-small) (omega arith)
+
+half-between : (upper : Bool) (h : ℕ) → h < 231458_19 → Between (minus 3195) (halfOf upper h) (plus 3225)
+unfolding halfOf inHalf
+half-between upper h g =
+    let r = row-at upper h g in
+    share-between upper _ _ _ (r .tested) (omega arith)
+
+-- which half a moment stands in
+pub moon-upper : (at : AnomalySecond) → 2 * (at .0 % 231458_19) < 231458_19 → moonOf at ≡ halfOf true (2 * (at .0 % 231458_19))
+unfolding moonOf
+moon-upper at h = rw (lt-ltb _ _ h, moonOf)
+
+pub moon-lower : (at : AnomalySecond) → 231458_19 ≤ 2 * (at .0 % 231458_19) → moonOf at ≡ halfOf false (2 * (at .0 % 231458_19) - 231458_19)
+unfolding moonOf
+moon-lower at h = rw (le-ltb _ _ h, moonOf)
+
+pub moon-bounds : (at : AnomalySecond) → Between (minus 3195) (moonOf at) (plus 3225)
+moon-bounds at = by-half (ltb h 231458_19) refl
+  where
+    h : ℕ
+    h = 2 * (at .0 % 231458_19)
+
+    by-half : (b : Bool) → ltb h 231458_19 ≡ b → Between (minus 3195) (moonOf at) (plus 3225)
+    by-half true e = rw (moon-upper at (ltb-true h 231458_19 e)) (half-between true h (ltb-true h 231458_19 e))
+    by-half false e =
+        rw (moon-lower at (ltb-false h 231458_19 e)) (half-between false (h - 231458_19) (omega (arith, ltb-false h 231458_19 e)))
+
+-- on the first day of the count it is not below zero
+pub moon-first-day : (at : AnomalySecond) → 2 * at .0 < halfSeconds dayFen → pos 0 ≤ℤ moonOf at
+unfolding halfOf inHalf shareOf upperRows
+moon-first-day at h =
+    let same : at .0 % 231458_19 ≡ at .0 = mod-eq-of-lt (omega arith) in
+    rw (moon-upper at (omega arith), same, div-eq-of-lt h, mod-eq-of-lt h) (nearest-pos _ _)

@@ -1,0 +1,2 @@
+pub mod Moon
+pub mod Room

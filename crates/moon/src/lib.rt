@@ -1,0 +1,152 @@
+use units::AnomalySecond;
+use units::FEN_OF_DAY;
+ghost use mathlib.Core.Path.{_≡_};
+ghost use Prim.Native.Nat.{_<_};
+ghost use lib.ListN.{getD};
+ghost use Rattle.units.specs.Units.{dayFen};
+ghost use Rattle.numbers.specs.Sign.{plus, minus};
+ghost use Rattle.moon.specs.Moon.{rows, noRow, halfSeconds, part, shareOf, inHalf, moonOf};
+ghost use Rattle.moon.specs.Room.{Part};
+
+// Half an anomaly second, 1/200 fen: the half period is not whole in anomaly seconds.
+pub struct HalfSecond(pub u64);
+
+// How the correction changes in a day, in fen, as the page says it.
+pub enum Change {
+    Gain(u32),
+    Loss(u32),
+    // a gain first, and a loss at the end
+    GainThenLoss(u32, u32),
+    // a loss first, and no more of the day
+    FirstLoss(u32),
+}
+
+// A day of the table: its change, and the sum before it.
+pub struct MoonRow(pub Change, pub u32);
+
+// A part of a fen, before it is rounded.
+pub struct Share {
+    pub numerator: i64,
+    pub divisor: u64,
+}
+
+// From an apogee to the next, in anomaly seconds.
+const PERIOD: u64 = 231458_19;
+
+// In half anomaly seconds: a day, the two parts of row 7, and what stands for a day in row 14.
+const DAY: u64 = FEN_OF_DAY * 200;
+
+const GAINING_IN_7: u64 = 7465 * 200;
+
+const LOSING_IN_7: u64 = 935 * 200;
+
+const DAY_OF_14: u64 = 6529 * 200;
+
+// 003, Table 4, upper half.
+const UPPER: [MoonRow; 14] = [
+    MoonRow(Change::Gain(830), 0),
+    MoonRow(Change::Gain(726), 830),
+    MoonRow(Change::Gain(606), 1556),
+    MoonRow(Change::Gain(471), 2162),
+    MoonRow(Change::Gain(337), 2633),
+    MoonRow(Change::Gain(202), 2970),
+    MoonRow(Change::GainThenLoss(53, 7), 3172),
+    MoonRow(Change::Loss(82), 3218),
+    MoonRow(Change::Loss(224), 3136),
+    MoonRow(Change::Loss(366), 2912),
+    MoonRow(Change::Loss(509), 2546),
+    MoonRow(Change::Loss(643), 2037),
+    MoonRow(Change::Loss(748), 1394),
+    MoonRow(Change::FirstLoss(646), 646),
+];
+
+// 003, Table 4, lower half.
+const LOWER: [MoonRow; 14] = [
+    MoonRow(Change::Gain(830), 0),
+    MoonRow(Change::Gain(726), 830),
+    MoonRow(Change::Gain(598), 1556),
+    MoonRow(Change::Gain(464), 2154),
+    MoonRow(Change::Gain(329), 2618),
+    MoonRow(Change::Gain(195), 2947),
+    MoonRow(Change::GainThenLoss(53, 7), 3142),
+    MoonRow(Change::Loss(82), 3188),
+    MoonRow(Change::Loss(225), 3106),
+    MoonRow(Change::Loss(366), 2881),
+    MoonRow(Change::Loss(501), 2515),
+    MoonRow(Change::Loss(628), 2014),
+    MoonRow(Change::Loss(740), 1386),
+    MoonRow(Change::FirstLoss(646), 646),
+];
+
+fn row_of(upper: bool, day: usize) -> MoonRow
+    requires { ⌜ day < 14 ⌝ }
+    ensures { λ r. ⌜ r ≡ getD (rows upper) day noRow ⌝ }
+{
+    if upper { UPPER[day] } else { LOWER[day] }
+}
+
+// sum + gain × over / length.
+fn gaining(sum: u64, gain: u32, over: u64, length: u64) -> Share
+    requires { ⌜ Part sum over length ⌝ }
+    ensures { λ r. ⌜ r ≡ part sum (plus gain) over length ⌝ }
+{
+    Share {
+        numerator: (sum * length + (gain as u64) * over) as i64,
+        divisor: length,
+    }
+}
+
+// sum - loss × over / length.
+fn losing(sum: u64, loss: u32, over: u64, length: u64) -> Share
+    requires { ⌜ Part sum over length ⌝ }
+    ensures { λ r. ⌜ r ≡ part sum (minus loss) over length ⌝ }
+{
+    Share {
+        numerator: (sum * length) as i64 - ((loss as u64) * over) as i64,
+        divisor: length,
+    }
+}
+
+// The correction so far into a day of the table, without its sign.
+fn share_of(row: MoonRow, over: HalfSecond) -> Share
+    requires { ⌜ over .0 < halfSeconds dayFen ⌝ }
+    ensures { λ r. ⌜ r ≡ shareOf (row .0) (row .1) (over .0) ⌝ }
+{
+    let change = row.0;
+    let sum = row.1 as u64;
+    let t = over.0;
+    match change {
+        Change::Gain(gain) => gaining(sum, gain, t, DAY),
+        Change::Loss(loss) => losing(sum, loss, t, DAY),
+        Change::FirstLoss(loss) => losing(sum, loss, t, DAY_OF_14),
+        Change::GainThenLoss(gain, loss) => {
+            if t <= GAINING_IN_7 {
+                gaining(sum, gain, t, GAINING_IN_7)
+            } else {
+                losing(sum + (gain as u64), loss, t - GAINING_IN_7, LOSING_IN_7)
+            }
+        }
+    }
+}
+
+// The correction so far into a half of the period, without its sign.
+fn in_half(upper: bool, into: HalfSecond) -> Share
+    requires { ⌜ into .0 < 231458_19 ⌝ }
+    ensures { λ r. ⌜ r ≡ inHalf upper (into .0) ⌝ }
+{
+    let day = (into.0 / DAY) as usize;
+    share_of(row_of(upper, day), HalfSecond(into.0 % DAY))
+}
+
+// The Moon's correction at a moment counted from the start of the count, in fen.
+pub fn moon_of(at: AnomalySecond) -> i64
+    ensures { λ r. ⌜ r ≡ moonOf at ⌝ }
+{
+    let into = 2 * (at.0 % PERIOD);
+    if into < PERIOD {
+        let share = in_half(true, HalfSecond(into));
+        return numbers::nearest_of(share.numerator, share.divisor);
+    }
+    let share = in_half(false, HalfSecond(into - PERIOD));
+    numbers::nearest_of(0 - share.numerator, share.divisor)
+}

@@ -1,0 +1,11 @@
+-- What the inner functions ask of their callers, so that every number fits its word. No rule of the calendar.
+use Prim.Native.Nat.{ℕ, _<_, _≤_}
+use lib.IntN.{natAbs}
+use Rattle.sun.specs.declared.Term.{Term}
+
+-- a true term's numbers, and whole days in it
+pub record Narrow (t : Term) (n : ℕ) : Type 0 where
+  pub rate-small : natAbs (t .rate) ≤ 5000
+  pub first-small : natAbs (t .first) ≤ 400000
+  pub sum-small : natAbs (t .sum) ≤ 20000000
+  pub days-few : n < 16

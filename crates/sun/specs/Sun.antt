@@ -1,0 +1,96 @@
+-- The Sun's correction (01, "Sun's correction"; 003, Tables 1 and 2).
+use mathlib.Core.Bool.{true, false}
+use mathlib.Core.List.{List, [], _∷_}
+use Prim.Native.Nat.{ℕ, _+_, _-_, _*_, _/_, _%_}
+use lib.Dec.{ltb}
+use lib.IntN.{ℤ, pos, _+ℤ_, _*ℤ_}
+use Rattle.numbers.specs.Sign.{plus, minus}
+use Rattle.numbers.specs.Rounding.{nearest}
+use Rattle.units.specs.declared.Byo.{Byo}
+use Rattle.units.specs.declared.Fen.{Fen}
+use Rattle.units.specs.Units.{fen, byo, dayByo, fenToByo}
+use Rattle.sun.specs.declared.SunRow.{SunRow}
+use Rattle.sun.specs.declared.Term.{Term}
+use Rattle.sun.specs.declared.Place.{Place}
+
+-- a true term as printed: days, fen and byo of its span; rate, first and sum, with `_` for the decimal point
+abbrev pub row : ℕ → ℕ → ℕ → ℤ → ℤ → ℤ → SunRow
+row days f b rate first sum = (days, f, b, rate, first, sum)
+
+-- the term of the solstice, Dongzhi
+unfoldable pub solsticeRow : SunRow
+solsticeRow = row 14 4235 5 (minus 0_3695) (plus 33_4511) (plus 0)
+
+-- the 23 that follow, from Xiaohan to Daxue
+unfoldable pub laterRows : List SunRow
+laterRows =
+    row 14 5235 5 (minus 0_3606) (plus 28_0389) (plus 449_0000) ∷
+    row 14 6235 5 (minus 0_3519) (plus 22_6998) (plus 823_0000) ∷
+    row 14 7235 5 (minus 0_4068) (plus 17_8923) (plus 1122_0000) ∷
+    row 15 35 5 (minus 0_3998) (plus 11_7966) (plus 1346_0000) ∷
+    row 15 1235 5 (minus 0_3998) (plus 5_7986) (plus 1481_0000) ∷
+    row 15 2435 5 (minus 0_3779) (minus 0_2433) (plus 1526_0000) ∷
+    row 15 3635 5 (minus 0_3634) (minus 6_1254) (plus 1481_0000) ∷
+    row 15 4835 5 (minus 0_2987) (minus 12_2048) (plus 1346_0000) ∷
+    row 15 5835 5 (minus 0_2919) (minus 16_9060) (plus 1122_0000) ∷
+    row 15 6835 5 (minus 0_2854) (minus 21_5362) (plus 823_0000) ∷
+    row 15 7835 5 (minus 0_2854) (minus 26_0498) (plus 449_0000) ∷
+    row 15 7835 5 (plus 0_2854) (minus 30_3119) (plus 0) ∷
+    row 15 6835 5 (plus 0_2919) (minus 25_8126) (minus 449_0000) ∷
+    row 15 5835 5 (plus 0_2987) (minus 21_2454) (minus 823_0000) ∷
+    row 15 4835 5 (plus 0_3634) (minus 17_0296) (minus 1122_0000) ∷
+    row 15 3635 5 (plus 0_3779) (minus 11_4744) (minus 1346_0000) ∷
+    row 15 2435 5 (plus 0_3779) (minus 5_6429) (minus 1481_0000) ∷
+    row 15 1235 5 (plus 0_3998) (plus 0_1432) (minus 1526_0000) ∷
+    row 15 35 5 (plus 0_4068) (plus 6_1488) (minus 1481_0000) ∷
+    row 14 7235 5 (plus 0_3519) (plus 12_6336) (minus 1346_0000) ∷
+    row 14 6235 5 (plus 0_3606) (plus 17_8043) (minus 1122_0000) ∷
+    row 14 5235 5 (plus 0_3695) (plus 23_0590) (minus 823_0000) ∷
+    row 14 4235 5 (plus 0_3695) (plus 28_4618) (minus 449_0000) ∷ []
+
+abbrev pub sunRows : List SunRow
+sunRows = solsticeRow ∷ laterRows
+
+-- what stands for a row that there is not
+abbrev pub noRow : SunRow
+noRow = row 0 0 0 (plus 0) (plus 0) (plus 0)
+
+-- a printed row as a term: its span in byo; its rate, first and sum in ten-thousandths of a fen
+abbrev pub termOf : SunRow → Term
+termOf r = record { span = byo (r .0 * dayByo + fenToByo (fen (r .1)) .0 + r .2); rate = r .3; first = r .4; sum = r .5 }
+
+abbrev pub place : Term → ℕ → Place
+place t x = record { term = t; into = byo x }
+
+-- x byo after the start of row r's term, which rows rs follow: the term whose span holds that moment, start counted in
+unfoldable pub placeIn : SunRow → List SunRow → ℕ → Place
+placeIn r [] x = place (termOf r) x
+placeIn r (q ∷ qs) x =
+    elim (ltb x (termOf r .span .0)) [ true ↦ place (termOf r) x | false ↦ placeIn q qs (x - termOf r .span .0) ]
+
+-- from a solstice to the next
+abbrev pub year : Fen
+year = fen 3068055
+
+-- from the solstice, modulo 3,068,055 fen
+unfoldable pub sunPlace : Byo → Place
+sunPlace at = placeIn solsticeRow laterRows (at .0 % fenToByo year .0)
+
+-- n whole days into a term: sum + first × n + rate × n(n − 1)/2
+unfoldable pub afterDays : Term → ℕ → ℤ
+afterDays t n = t .sum +ℤ t .first *ℤ pos n +ℤ t .rate *ℤ pos (n * (n - 1) / 2)
+
+-- the change of the day after that: first + rate × n
+unfoldable pub onDay : Term → ℕ → ℤ
+onDay t n = t .first +ℤ t .rate *ℤ pos n
+
+-- .. of which the rest of the day, r byo, has its share: the whole over 10,000 × a day's byo
+unfoldable pub sunShare : Place → ℤ
+sunShare p =
+    let n : ℕ = p .into .0 / dayByo in
+    let r : ℕ = p .into .0 % dayByo in
+    afterDays (p .term) n *ℤ pos dayByo +ℤ onDay (p .term) n *ℤ pos r
+
+-- the Sun's correction at a moment counted from the start of the count, rounded once, to fen
+unfoldable pub sunOf : Byo → ℤ
+sunOf at = nearest (sunShare (sunPlace at)) (10000 * dayByo)
