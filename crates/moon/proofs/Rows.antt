@@ -22,8 +22,12 @@ use Rattle.moon.specs.declared.Change.{Change}
 use Rattle.moon.specs.declared.Change.the-variants.{Gain, Loss, GainThenLoss, FirstLoss}
 use Rattle.moon.specs.declared.MoonRow.{MoonRow}
 use Rattle.moon.specs.declared.Share.{Share}
-use Rattle.moon.specs.Moon.{upperRows, lowerRows, rows, noRow, halfSeconds, part, shareOf, inHalf, signed, halfOf, moonOf}
+use Rattle.moon.specs.Moon.{upperRows, lowerRows, rows, noRow, halfSeconds, period, halfPeriod, part, shareOf, inHalf, signed, halfOf, moonOf}
 use Rattle.moon.specs.Room.{Part}
+
+-- half the period is 115,729.095 fen
+half-period : halfPeriod * 5 ≡ 115729_095
+half-period = refl
 
 -- (−z) n is −(z n)
 pub neg-times : (z : ℤ) (n : ℕ) → negℤ z *ℤ pos n ≡ negℤ (z *ℤ pos n)
@@ -130,48 +134,48 @@ record Row (upper : Bool) (w : MoonRow) : Type 0 where
   sum-small : w .1 ≤ 4000
   tested : T (rowEnds upper (w .0) (w .1))
 
-row-at : (upper : Bool) (h : ℕ) → h < 231458_19 → Row upper (getD (rows upper) (h / halfSeconds dayFen) noRow)
+row-at : (upper : Bool) (h : ℕ) → h < halfPeriod → Row upper (getD (rows upper) (h / halfSeconds dayFen) noRow)
 row-at upper h g =
     let w : MoonRow = getD (rows upper) (h / halfSeconds dayFen) noRow in
     let (sizes, tested) = and-yes (small (w .0) && leb (w .1) 4000) (rowEnds upper (w .0) (w .1)) (row-tested upper (h / halfSeconds dayFen) (omega arith)) in
     let (change, sum) = and-yes (small (w .0)) (leb (w .1) 4000) sizes in
     record { change-small = change; sum-small = leb→le _ _ sum; tested = tested }
 
-pub half-sized : (upper : Bool) (h : ℕ) → h < 231458_19 → Sized (inHalf upper h)
+pub half-sized : (upper : Bool) (h : ℕ) → h < halfPeriod → Sized (inHalf upper h)
 unfolding inHalf
 half-sized upper h g =
     let r = row-at upper h g in
     share-sized _ _ _ (r .change-small) (r .sum-small) (omega arith)
 
-half-between : (upper : Bool) (h : ℕ) → h < 231458_19 → Between (minus 3195) (halfOf upper h) (plus 3225)
+half-between : (upper : Bool) (h : ℕ) → h < halfPeriod → Between (minus 3195) (halfOf upper h) (plus 3225)
 unfolding halfOf inHalf
 half-between upper h g =
     let r = row-at upper h g in
     share-between upper _ _ _ (r .tested) (omega arith)
 
 -- which half a moment stands in
-pub moon-upper : (at : AnomalySecond) → 2 * (at .0 % 231458_19) < 231458_19 → moonOf at ≡ halfOf true (2 * (at .0 % 231458_19))
+pub moon-upper : (at : AnomalySecond) → 2 * (at .0 % period) < halfPeriod → moonOf at ≡ halfOf true (2 * (at .0 % period))
 unfolding moonOf
 moon-upper at h = rw (lt-ltb _ _ h, moonOf)
 
-pub moon-lower : (at : AnomalySecond) → 231458_19 ≤ 2 * (at .0 % 231458_19) → moonOf at ≡ halfOf false (2 * (at .0 % 231458_19) - 231458_19)
+pub moon-lower : (at : AnomalySecond) → halfPeriod ≤ 2 * (at .0 % period) → moonOf at ≡ halfOf false (2 * (at .0 % period) - halfPeriod)
 unfolding moonOf
 moon-lower at h = rw (le-ltb _ _ h, moonOf)
 
 pub moon-bounds : (at : AnomalySecond) → Between (minus 3195) (moonOf at) (plus 3225)
-moon-bounds at = by-half (ltb h 231458_19) refl
+moon-bounds at = by-half (ltb h halfPeriod) refl
   where
     h : ℕ
-    h = 2 * (at .0 % 231458_19)
+    h = 2 * (at .0 % period)
 
-    by-half : (b : Bool) → ltb h 231458_19 ≡ b → Between (minus 3195) (moonOf at) (plus 3225)
-    by-half true e = rw (moon-upper at (ltb-true h 231458_19 e)) (half-between true h (ltb-true h 231458_19 e))
+    by-half : (b : Bool) → ltb h halfPeriod ≡ b → Between (minus 3195) (moonOf at) (plus 3225)
+    by-half true e = rw (moon-upper at (ltb-true h halfPeriod e)) (half-between true h (ltb-true h halfPeriod e))
     by-half false e =
-        rw (moon-lower at (ltb-false h 231458_19 e)) (half-between false (h - 231458_19) (omega (arith, ltb-false h 231458_19 e)))
+        rw (moon-lower at (ltb-false h halfPeriod e)) (half-between false (h - halfPeriod) (omega (arith, ltb-false h halfPeriod e)))
 
 -- on the first day of the count it is not below zero
 pub moon-first-day : (at : AnomalySecond) → 2 * at .0 < halfSeconds dayFen → pos 0 ≤ℤ moonOf at
 unfolding halfOf inHalf shareOf upperRows
 moon-first-day at h =
-    let same : at .0 % 231458_19 ≡ at .0 = mod-eq-of-lt (omega arith) in
+    let same : at .0 % period ≡ at .0 = mod-eq-of-lt (omega arith) in
     rw (moon-upper at (omega arith), same, div-eq-of-lt h, mod-eq-of-lt h) (nearest-pos _ _)

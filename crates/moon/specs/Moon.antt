@@ -64,6 +64,13 @@ noRow = row (Gain 0) 0
 abbrev pub halfSeconds : ℕ → ℕ
 halfSeconds f = f * 200
 
+-- the period in anomaly seconds, 231,458.19 fen, and its half in half anomaly seconds, 115,729.095 fen
+abbrev pub period : ℕ
+period = 231458_19
+
+abbrev pub halfPeriod : ℕ
+halfPeriod = 2 * period / 2
+
 -- sum + change × t/length
 abbrev pub part : ℕ → ℤ → ℕ → ℕ → Share
 part sum change t length = record { numerator = pos (sum * length) +ℤ change *ℤ pos t; divisor = length }
@@ -94,9 +101,9 @@ signed false z = negℤ z
 unfoldable pub halfOf : Bool → ℕ → ℤ
 halfOf upper h = nearest (signed upper (inHalf upper h .numerator)) (inHalf upper h .divisor)
 
--- the Moon's correction at a moment counted from the start of the count, in fen: modulo 231,458.19 fen, the first half of that by the upper rows,
+-- the Moon's correction at a moment counted from the start of the count, in fen: modulo the period, the first half by the upper rows,
 -- the second, less that half, by the lower
 unfoldable pub moonOf : AnomalySecond → ℤ
 moonOf at =
-    let h : ℕ = 2 * (at .0 % 231458_19) in
-    elim (ltb h 231458_19) [ true ↦ halfOf true h | false ↦ halfOf false (h - 231458_19) ]
+    let h : ℕ = 2 * (at .0 % period) in
+    elim (ltb h halfPeriod) [ true ↦ halfOf true h | false ↦ halfOf false (h - halfPeriod) ]

@@ -5,7 +5,7 @@ ghost use Prim.Native.Nat.{_<_};
 ghost use lib.ListN.{getD};
 ghost use Rattle.units.specs.Units.{dayFen};
 ghost use Rattle.numbers.specs.Sign.{plus, minus};
-ghost use Rattle.moon.specs.Moon.{rows, noRow, halfSeconds, part, shareOf, inHalf, moonOf};
+ghost use Rattle.moon.specs.Moon.{rows, noRow, halfSeconds, halfPeriod, part, shareOf, inHalf, moonOf};
 ghost use Rattle.moon.specs.Room.{Part};
 
 // Half an anomaly second, 1/200 fen: the half period is not whole in anomaly seconds.
@@ -17,7 +17,7 @@ pub enum Change {
     Loss(u32),
     // a gain first, and a loss at the end
     GainThenLoss(u32, u32),
-    // a loss first, and no more of the day
+    // a loss in what there is of the day
     FirstLoss(u32),
 }
 
@@ -32,6 +32,9 @@ pub struct Share {
 
 // From an apogee to the next, in anomaly seconds.
 const PERIOD: u64 = 231458_19;
+
+// Half of that, in half anomaly seconds.
+const HALF_PERIOD: u64 = 2 * PERIOD / 2;
 
 // In half anomaly seconds: a day, the two parts of row 7, and what stands for a day in row 14.
 const DAY: u64 = FEN_OF_DAY * 200;
@@ -131,7 +134,7 @@ fn share_of(row: MoonRow, over: HalfSecond) -> Share
 
 // The correction so far into a half of the period, without its sign.
 fn in_half(upper: bool, into: HalfSecond) -> Share
-    requires { ⌜ into .0 < 231458_19 ⌝ }
+    requires { ⌜ into .0 < halfPeriod ⌝ }
     ensures { λ r. ⌜ r ≡ inHalf upper (into .0) ⌝ }
 {
     let day = (into.0 / DAY) as usize;
@@ -143,10 +146,10 @@ pub fn moon_of(at: AnomalySecond) -> i64
     ensures { λ r. ⌜ r ≡ moonOf at ⌝ }
 {
     let into = 2 * (at.0 % PERIOD);
-    if into < PERIOD {
+    if into < HALF_PERIOD {
         let share = in_half(true, HalfSecond(into));
         return numbers::nearest_of(share.numerator, share.divisor);
     }
-    let share = in_half(false, HalfSecond(into - PERIOD));
+    let share = in_half(false, HalfSecond(into - HALF_PERIOD));
     numbers::nearest_of(0 - share.numerator, share.divisor)
 }

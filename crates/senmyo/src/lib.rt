@@ -1,5 +1,6 @@
 pub use moon::moon_of;
 pub use sun::sun_of;
+use units::BYO_OF_FEN;
 use units::Byo;
 use units::Fen;
 ghost use mathlib.Core.Path.{_≡_};
@@ -10,13 +11,13 @@ ghost use Rattle.senmyo.specs.Phases.{corrections, newMoon, advancedDay,
 ghost use Rattle.senmyo.specs.Room.{Movable};
 
 // From a mid-term to the next, in byo: two terms of 127,835 fen 5 byo.
-const MID_TERM: u64 = 2 * (127835 * 8 + 5);
+const MID_TERM: u64 = 2 * (127835 * BYO_OF_FEN + 5);
 
 // From a mean new moon to the next, in fen.
 const MONTH: u64 = 248057;
 
 // From a mean new moon to the mean full moon, in byo: 124,028 1/2 fen.
-const HALF_MONTH: u64 = 124028 * 8 + 4;
+const HALF_MONTH: u64 = 124028 * BYO_OF_FEN + 4;
 
 // Mid-term `number`, of which the first stands at the start of the count.
 pub fn mid_term(number: u32) -> Byo
@@ -44,7 +45,7 @@ fn moved(moment: Byo, correction: i64) -> Byo
     requires { ⌜ Movable moment correction ⌝ }
     ensures { λ r. ⌜ pos (r .0) ≡ pos (moment .0) +ℤ correction *ℤ pos 8 ⌝ }
 {
-    Byo((moment.0 as i64 + correction * 8) as u64)
+    Byo((moment.0 as i64 + correction * (BYO_OF_FEN as i64)) as u64)
 }
 
 // A mean moment with both corrections, which are both taken at it.

@@ -1,7 +1,7 @@
 -- Laws of the true terms: what every printed row has, and how the search for a moment's term goes.
 use mathlib.Core.Path.{_≡_, refl}
 use mathlib.Core.Bool.{Bool, true, false, _&&_}
-use mathlib.Core.List.{List, [], _∷_}
+use mathlib.Core.List.{List, [], _∷_, map, reverse}
 use Prim.Native.Nat.{ℕ, suc, _+_, _-_, _<_, _≤_}
 use native.Mathlib.Nat.{mod-lt}
 use native.Mathlib.Numerals.{add-one}
@@ -9,7 +9,7 @@ use native.Mathlib.Omega.{arith}
 use borrow.Author.Tests.{lt-ltb, le-ltb, ltb-true, ltb-false}
 use lib.Dec.{T, ltb, leb, ltb→lt, leb→le}
 use lib.IntN.{natAbs}
-use lib.ListN.{length, getD, drop}
+use lib.ListN.{length, getD, take, drop}
 use lib.Seq.{drop-cons}
 use mir.Facts.{and-yes}
 use Rattle.numbers.proofs.Tests.{every, at-each-row}
@@ -107,3 +107,11 @@ unfolding sunPlace
 found P rows at =
     found-in P solsticeRow laterRows _ (λ i g. rows i (omega (arith, row-count)))
     (rw year-filled (mod-lt (at .0) (omega arith)))
+
+-- the last twelve spans are the first twelve in reverse
+abbrev span : SunRow → List ℕ
+span r = r .0 ∷ r .1 ∷ r .2 ∷ []
+
+mirrored : map span (drop 12 sunRows) ≡ reverse (map span (take 12 sunRows))
+unfolding solsticeRow laterRows
+mirrored = refl

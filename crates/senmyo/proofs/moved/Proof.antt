@@ -26,19 +26,22 @@ back c =
 cast-t3 : tie.Need-cast-t3
 cast-t3 c = search needs
 
-mul-t4 : tie.Need-mul-t4
-mul-t4 c = rw (toZ-ofZ (c .before .fits .correction)) (sum c .product)
+cast-t4 : tie.Need-cast-t4
+cast-t4 c = search needs
 
-add-t5 : tie.Need-add-t5
-add-t5 c =
+mul-t5 : tie.Need-mul-t5
+mul-t5 c = rw (toZ-ofZ (c .before .fits .correction)) (sum c .product)
+
+add-t6 : tie.Need-add-t6
+add-t6 c =
     let small : c .before .args .moment .0 < 2 ^ 63 = omega arith in
     rw (toZ-ofZ (c .before .fits .correction), toZ-pos w64 small, toZ-ofZ (sum c .product)) (sum c .total)
 
-cast-t6 : tie.Need-cast-t6
-cast-t6 c = rw (back c) (yes-nonNeg (c .before .pre .after-start), fits-natAbs tt (sum c .total))
+cast-t7 : tie.Need-cast-t7
+cast-t7 c = rw (back c) (yes-nonNeg (c .before .pre .after-start), fits-natAbs tt (sum c .total))
 
 returns : tie.Need-returns
 returns c = rw (back c) (pos-natAbs _ (yes-nonNeg (c .before .pre .after-start)))
 
 pub moved-spec : {M : Type 1} → statement M
-moved-spec = tie.close (tie.spec cast-t3 mul-t4 add-t5 cast-t6 returns)
+moved-spec = tie.close (tie.spec cast-t3 cast-t4 mul-t5 add-t6 cast-t7 returns)
