@@ -42,22 +42,22 @@ signed-line false a b n = rw (neg-times b n) (negℤ-+ℤ a (b *ℤ pos n))
 
 -- the two products of a part, with a change of 32 bits
 pub record Products (sum change over length : ℕ) : Type 0 where
-  pub whole : sum * length ≤ 2 ^ 33 * 1680000
-  pub share : change * over ≤ 2 ^ 32 * 1680000
+  pub whole : sum * length ≤ 2 ^ 33 * halfSeconds dayFen
+  pub share : change * over ≤ 2 ^ 32 * halfSeconds dayFen
 
 pub products : {sum change over length : ℕ} → Part sum over length → change < 2 ^ 32 → Products sum change over length
 products r c = record { whole = mul-le-mul (le-of-lt (r .sum-small)) (r .length-small); share = mul-le-mul (le-of-lt c) (r .over-small) }
 
 pub record Sized (s : Share) : Type 0 where
   pub some : 0 < s .divisor
-  pub few : s .divisor ≤ 1680000
-  pub size : Small (s .numerator) (5000 * 1680000 + 1000 * 1680000)
+  pub few : s .divisor ≤ halfSeconds dayFen
+  pub size : Small (s .numerator) (5000 * halfSeconds dayFen + 1000 * halfSeconds dayFen)
 
-part-sized : (sum : ℕ) (change : ℤ) (t length : ℕ) → sum ≤ 5000 → natAbs change ≤ 1000 → t ≤ 1680000 → 0 < length → length ≤ 1680000 → Sized (part sum change t length)
+part-sized : (sum : ℕ) (change : ℤ) (t length : ℕ) → sum ≤ 5000 → natAbs change ≤ 1000 → t ≤ halfSeconds dayFen → 0 < length → length ≤ halfSeconds dayFen → Sized (part sum change t length)
 part-sized sum change t length s c h some few =
-    let whole : Small (pos (sum * length)) (5000 * 1680000) = record { size = mul-le-mul s few } in
+    let whole : Small (pos (sum * length)) (5000 * halfSeconds dayFen) = record { size = mul-le-mul s few } in
     let rate : Small change 1000 = record { size = c } in
-    record { some = some; few = few; size = small-add whole (small-mul t 1680000 h rate) }
+    record { some = some; few = few; size = small-add whole (small-mul t (halfSeconds dayFen) h rate) }
 
 -- gains and losses of at most 1000 fen
 abbrev small : Change → Bool
@@ -66,20 +66,20 @@ small (Loss loss) = leb (natAbs (minus loss)) 1000
 small (GainThenLoss gain loss) = leb (natAbs (plus gain)) 1000 && leb (natAbs (minus loss)) 1000
 small (FirstLoss loss) = leb (natAbs (minus loss)) 1000
 
-share-sized : (change : Change) (sum t : ℕ) → T (small change) → sum ≤ 4000 → t < 1680000 → Sized (shareOf change sum t)
+share-sized : (change : Change) (sum t : ℕ) → T (small change) → sum ≤ 4000 → t < halfSeconds dayFen → Sized (shareOf change sum t)
 unfolding shareOf
-share-sized (Gain gain) sum t c s h = part-sized sum (plus gain) t 1680000 (omega arith) (leb→le _ _ c) (omega arith) (omega arith) (omega arith)
-share-sized (Loss loss) sum t c s h = part-sized sum (minus loss) t 1680000 (omega arith) (leb→le _ _ c) (omega arith) (omega arith) (omega arith)
-share-sized (GainThenLoss gain loss) sum t c s h = by-part (leb t 1493000)
+share-sized (Gain gain) sum t c s h = part-sized sum (plus gain) t (halfSeconds dayFen) (omega arith) (leb→le _ _ c) (omega arith) (omega arith) (omega arith)
+share-sized (Loss loss) sum t c s h = part-sized sum (minus loss) t (halfSeconds dayFen) (omega arith) (leb→le _ _ c) (omega arith) (omega arith) (omega arith)
+share-sized (GainThenLoss gain loss) sum t c s h = by-part (leb t (halfSeconds 7465))
   where
     both : T (leb (natAbs (plus gain)) 1000) × T (leb (natAbs (minus loss)) 1000)
     both = and-yes (leb (natAbs (plus gain)) 1000) (leb (natAbs (minus loss)) 1000) c
 
-    by-part : (b : Bool) → Sized (elim b as (λ _. Share) [ true ↦ part sum (plus gain) t 1493000 | false ↦ part (sum + gain) (minus loss) (t - 1493000) 187000 ])
-    by-part true = part-sized sum (plus gain) t 1493000 (omega arith) (leb→le _ _ (both .0)) (omega arith) (omega arith) (omega arith)
+    by-part : (b : Bool) → Sized (elim b as (λ _. Share) [ true ↦ part sum (plus gain) t (halfSeconds 7465) | false ↦ part (sum + gain) (minus loss) (t - halfSeconds 7465) (halfSeconds 935) ])
+    by-part true = part-sized sum (plus gain) t (halfSeconds 7465) (omega arith) (leb→le _ _ (both .0)) (omega arith) (omega arith) (omega arith)
     by-part false =
-        part-sized (sum + gain) (minus loss) (t - 1493000) 187000 (omega (arith, leb→le gain 1000 (both .0))) (leb→le _ _ (both .1)) (omega arith) (omega arith) (omega arith)
-share-sized (FirstLoss loss) sum t c s h = part-sized sum (minus loss) t 1305800 (omega arith) (leb→le _ _ c) (omega arith) (omega arith) (omega arith)
+        part-sized (sum + gain) (minus loss) (t - halfSeconds 7465) (halfSeconds 935) (omega (arith, leb→le gain 1000 (both .0))) (leb→le _ _ (both .1)) (omega arith) (omega arith) (omega arith)
+share-sized (FirstLoss loss) sum t c s h = part-sized sum (minus loss) t (halfSeconds 6529) (omega arith) (leb→le _ _ c) (omega arith) (omega arith) (omega arith)
 
 -- ---- a row's part of a fen, rounded, lies from −3195 to 3225: it runs along a line whose ends are tested
 
@@ -100,24 +100,24 @@ between-parts s sum change last length t some tested h =
     (between-ends (minus 3195) (plus 3225) (signed s (pos (sum * length))) (signed s change) last length some (between-yes _ _ _ (both .0)) (between-yes _ _ _ (both .1)) t h)
 
 abbrev rowEnds : Bool → Change → ℕ → Bool
-rowEnds s (Gain gain) sum = ends s sum (plus gain) 1680000 1680000
-rowEnds s (Loss loss) sum = ends s sum (minus loss) 1680000 1680000
-rowEnds s (GainThenLoss gain loss) sum = ends s sum (plus gain) 1493000 1493000 && ends s (sum + gain) (minus loss) 187000 187000
-rowEnds s (FirstLoss loss) sum = ends s sum (minus loss) 1680000 1305800
+rowEnds s (Gain gain) sum = ends s sum (plus gain) (halfSeconds dayFen) (halfSeconds dayFen)
+rowEnds s (Loss loss) sum = ends s sum (minus loss) (halfSeconds dayFen) (halfSeconds dayFen)
+rowEnds s (GainThenLoss gain loss) sum = ends s sum (plus gain) (halfSeconds 7465) (halfSeconds 7465) && ends s (sum + gain) (minus loss) (halfSeconds 935) (halfSeconds 935)
+rowEnds s (FirstLoss loss) sum = ends s sum (minus loss) (halfSeconds dayFen) (halfSeconds 6529)
 
-share-between : (s : Bool) (change : Change) (sum t : ℕ) → T (rowEnds s change sum) → t < 1680000 → Between (minus 3195) (nearest (signed s (shareOf change sum t .numerator)) (shareOf change sum t .divisor)) (plus 3225)
+share-between : (s : Bool) (change : Change) (sum t : ℕ) → T (rowEnds s change sum) → t < halfSeconds dayFen → Between (minus 3195) (nearest (signed s (shareOf change sum t .numerator)) (shareOf change sum t .divisor)) (plus 3225)
 unfolding shareOf
-share-between s (Gain gain) sum t tested h = between-parts s sum (plus gain) 1680000 1680000 t (omega arith) tested (omega arith)
-share-between s (Loss loss) sum t tested h = between-parts s sum (minus loss) 1680000 1680000 t (omega arith) tested (omega arith)
-share-between s (GainThenLoss gain loss) sum t tested h = by-part (leb t 1493000) refl
+share-between s (Gain gain) sum t tested h = between-parts s sum (plus gain) (halfSeconds dayFen) (halfSeconds dayFen) t (omega arith) tested (omega arith)
+share-between s (Loss loss) sum t tested h = between-parts s sum (minus loss) (halfSeconds dayFen) (halfSeconds dayFen) t (omega arith) tested (omega arith)
+share-between s (GainThenLoss gain loss) sum t tested h = by-part (leb t (halfSeconds 7465)) refl
   where
-    both : T (ends s sum (plus gain) 1493000 1493000) × T (ends s (sum + gain) (minus loss) 187000 187000)
-    both = and-yes (ends s sum (plus gain) 1493000 1493000) (ends s (sum + gain) (minus loss) 187000 187000) tested
+    both : T (ends s sum (plus gain) (halfSeconds 7465) (halfSeconds 7465)) × T (ends s (sum + gain) (minus loss) (halfSeconds 935) (halfSeconds 935))
+    both = and-yes (ends s sum (plus gain) (halfSeconds 7465) (halfSeconds 7465)) (ends s (sum + gain) (minus loss) (halfSeconds 935) (halfSeconds 935)) tested
 
-    by-part : (b : Bool) → leb t 1493000 ≡ b → Between (minus 3195) (nearest (signed s ((elim b as (λ _. Share) [ true ↦ part sum (plus gain) t 1493000 | false ↦ part (sum + gain) (minus loss) (t - 1493000) 187000 ]) .numerator)) ((elim b as (λ _. Share) [ true ↦ part sum (plus gain) t 1493000 | false ↦ part (sum + gain) (minus loss) (t - 1493000) 187000 ]) .divisor)) (plus 3225)
-    by-part true e = between-parts s sum (plus gain) 1493000 1493000 t (omega arith) (both .0) (leb-true t 1493000 e)
-    by-part false e = between-parts s (sum + gain) (minus loss) 187000 187000 (t - 1493000) (omega arith) (both .1) (omega arith)
-share-between s (FirstLoss loss) sum t tested h = between-parts s sum (minus loss) 1680000 1305800 t (omega arith) tested (omega arith)
+    by-part : (b : Bool) → leb t (halfSeconds 7465) ≡ b → Between (minus 3195) (nearest (signed s ((elim b as (λ _. Share) [ true ↦ part sum (plus gain) t (halfSeconds 7465) | false ↦ part (sum + gain) (minus loss) (t - halfSeconds 7465) (halfSeconds 935) ]) .numerator)) ((elim b as (λ _. Share) [ true ↦ part sum (plus gain) t (halfSeconds 7465) | false ↦ part (sum + gain) (minus loss) (t - halfSeconds 7465) (halfSeconds 935) ]) .divisor)) (plus 3225)
+    by-part true e = between-parts s sum (plus gain) (halfSeconds 7465) (halfSeconds 7465) t (omega arith) (both .0) (leb-true t (halfSeconds 7465) e)
+    by-part false e = between-parts s (sum + gain) (minus loss) (halfSeconds 935) (halfSeconds 935) (t - halfSeconds 7465) (omega arith) (both .1) (omega arith)
+share-between s (FirstLoss loss) sum t tested h = between-parts s sum (minus loss) (halfSeconds dayFen) (halfSeconds 6529) t (omega arith) tested (omega arith)
 
 -- ---- both at every row, by one test over each table
 

@@ -89,24 +89,24 @@ fn row_of(upper: bool, day: usize) -> MoonRow
 }
 
 // sum + gain × over / length.
-fn gaining(sum: u64, gain: u32, over: u64, length: u64) -> Share
-    requires { ⌜ Part sum over length ⌝ }
-    ensures { λ r. ⌜ r ≡ part sum (plus gain) over length ⌝ }
+fn gaining(sum: u64, gain: u32, over: HalfSecond, length: HalfSecond) -> Share
+    requires { ⌜ Part sum (over .0) (length .0) ⌝ }
+    ensures { λ r. ⌜ r ≡ part sum (plus gain) (over .0) (length .0) ⌝ }
 {
     Share {
-        numerator: (sum * length + (gain as u64) * over) as i64,
-        divisor: length,
+        numerator: (sum * length.0 + (gain as u64) * over.0) as i64,
+        divisor: length.0,
     }
 }
 
 // sum - loss × over / length.
-fn losing(sum: u64, loss: u32, over: u64, length: u64) -> Share
-    requires { ⌜ Part sum over length ⌝ }
-    ensures { λ r. ⌜ r ≡ part sum (minus loss) over length ⌝ }
+fn losing(sum: u64, loss: u32, over: HalfSecond, length: HalfSecond) -> Share
+    requires { ⌜ Part sum (over .0) (length .0) ⌝ }
+    ensures { λ r. ⌜ r ≡ part sum (minus loss) (over .0) (length .0) ⌝ }
 {
     Share {
-        numerator: (sum * length) as i64 - ((loss as u64) * over) as i64,
-        divisor: length,
+        numerator: (sum * length.0) as i64 - ((loss as u64) * over.0) as i64,
+        divisor: length.0,
     }
 }
 
@@ -117,17 +117,16 @@ fn share_of(row: MoonRow, over: HalfSecond) -> Share
 {
     let change = row.0;
     let sum = row.1 as u64;
-    let t = over.0;
     match change {
-        Change::Gain(gain) => gaining(sum, gain, t, DAY),
-        Change::Loss(loss) => losing(sum, loss, t, DAY),
-        Change::FirstLoss(loss) => losing(sum, loss, t, DAY_OF_14),
+        Change::Gain(gain) => gaining(sum, gain, over, HalfSecond(DAY)),
+        Change::Loss(loss) => losing(sum, loss, over, HalfSecond(DAY)),
+        Change::FirstLoss(loss) => losing(sum, loss, over, HalfSecond(DAY_OF_14)),
         Change::GainThenLoss(gain, loss) => {
-            if t <= GAINING_IN_7 {
-                gaining(sum, gain, t, GAINING_IN_7)
-            } else {
-                losing(sum + (gain as u64), loss, t - GAINING_IN_7, LOSING_IN_7)
+            if over.0 <= GAINING_IN_7 {
+                return gaining(sum, gain, over, HalfSecond(GAINING_IN_7));
             }
+            let past = HalfSecond(over.0 - GAINING_IN_7);
+            losing(sum + (gain as u64), loss, past, HalfSecond(LOSING_IN_7))
         }
     }
 }

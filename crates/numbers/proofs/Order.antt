@@ -1,4 +1,4 @@
--- The order of signed numbers: as naturals tell it, and as a computed test does.
+-- The order of signed numbers, as naturals tell it.
 use Prim.Native.Nat.{ℕ, _+_, _≤_}
 use native.Mathlib.Omega.{arith}
 use lib.Dec.{T, leb→le, le→leb}

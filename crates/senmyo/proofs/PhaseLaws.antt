@@ -1,4 +1,4 @@
--- Laws of true moments: no correction reaches back before the start of the count, so that nothing is lost where a moment is told by a natural.
+-- Laws of true moments: no correction reaches back before the start of the count, so that nothing is lost where a moment is told by a natural; and of the advance.
 use mathlib.Core.Path.{_≡_, refl, ap, _∙_}
 use mathlib.Core.Bool.{Bool, true, false}
 use Prim.Native.Nat.{ℕ, _+_, _*_, _/_, _<_, _≤_, _^_}
@@ -15,7 +15,7 @@ use Rattle.numbers.proofs.Size.{Small, small-between}
 use Rattle.units.specs.declared.Byo.{Byo}
 use Rattle.units.specs.declared.Fen.{Fen}
 use Rattle.units.specs.declared.AnomalySecond.{AnomalySecond}
-use Rattle.units.specs.Units.{fen, fenToByo, byoToFen, byoToAnomalySeconds, wholeDays, fenOfDay}
+use Rattle.units.specs.Units.{fen, fenToByo, byoToFen, byoToAnomalySeconds, wholeDays, fenOfDay, dayByo}
 use Rattle.senmyo.specs.Means.{meanNewMoon, meanFullMoon}
 use Rattle.sun.specs.Sun.{sunOf}
 use Rattle.moon.specs.Moon.{moonOf}
@@ -49,14 +49,14 @@ far-enough m s n h sun moon =
     }
 
 pub after-start : (m : Byo) → AfterStart m
-after-start m = by-day (ltb (m .0) 67200) refl
+after-start m = by-day (ltb (m .0) dayByo) refl
   where
-    by-day : (b : Bool) → ltb (m .0) 67200 ≡ b → AfterStart m
+    by-day : (b : Bool) → ltb (m .0) dayByo ≡ b → AfterStart m
     by-day true e =
-        let early = ltb-true (m .0) 67200 e in
+        let early = ltb-true (m .0) dayByo e in
         far-enough m 0 0 (omega arith) (sun-first-day m early) (moon-first-day _ (omega arith))
     by-day false e =
-        far-enough m 1526 3195 (omega (arith, ltb-false (m .0) 67200 e)) (sun-bounds m .from) (moon-bounds _ .from)
+        far-enough m 1526 3195 (omega (arith, ltb-false (m .0) dayByo e)) (sun-bounds m .from) (moon-bounds _ .from)
 
 pub sun-small : (m : Byo) → Small (sunOf m) (1526 + 1526)
 sun-small m = small-between 1526 1526 (sun-bounds m .from) (sun-bounds m .to)

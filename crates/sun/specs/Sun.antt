@@ -62,7 +62,7 @@ termOf r = record { span = byo (r .0 * dayByo + fenToByo (fen (r .1)) .0 + r .2)
 abbrev pub place : Term → ℕ → Place
 place t x = record { term = t; into = byo x }
 
--- x byo after the start of row r's term, which rows rs follow: the term whose span holds that moment, start counted in
+-- x byo after the start of a row's term, which other rows follow: the term whose span holds that moment, start counted in
 unfoldable pub placeIn : SunRow → List SunRow → ℕ → Place
 placeIn r [] x = place (termOf r) x
 placeIn r (q ∷ qs) x =
@@ -84,7 +84,8 @@ afterDays t n = t .sum +ℤ t .first *ℤ pos n +ℤ t .rate *ℤ pos (n * (n - 
 unfoldable pub onDay : Term → ℕ → ℤ
 onDay t n = t .first +ℤ t .rate *ℤ pos n
 
--- .. of which the rest of the day, r byo, has its share: the whole over 10,000 × a day's byo
+-- n whole days and the rest of a day, r byo, into a term: the value after n days, plus the rest's share of the day's change;
+-- what is to be divided by 10,000 × a day's byo
 unfoldable pub sunShare : Place → ℤ
 sunShare p =
     let n : ℕ = p .into .0 / dayByo in
