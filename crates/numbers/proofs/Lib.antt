@@ -4,3 +4,4 @@ pub mod Signs
 pub mod Size
 pub mod Rounding
 pub mod Tests
+pub mod Spans

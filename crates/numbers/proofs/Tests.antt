@@ -1,9 +1,10 @@
 -- A rule shown at every number of a range, or at every row of a table, by one test that is computed.
-use mathlib.Core.Path.{_≡_}
+use mathlib.Core.Path.{_≡_, refl, ap}
 use mathlib.Core.Bool.{Bool, true, _&&_}
 use mathlib.Core.List.{List}
 use Prim.Native.Nat.{ℕ, zero, suc, _+_, _-_, _<_, _≤_}
 use native.Mathlib.Nat.{add-zero}
+use native.Mathlib.Numerals.{add-one}
 use native.Mathlib.Omega.{arith}
 use lib.Dec.{T}
 use lib.ListN.{length, getD}
@@ -34,3 +35,23 @@ everyRow test other rows = every (λ i. test (getD rows i other)) 0 (length rows
 
 pub at-each-row : {A : Type 0} (test : A → Bool) (other : A) (rows : List A) → T (everyRow test other rows) → (i : ℕ) → i < length rows → T (test (getD rows i other))
 at-each-row test other rows t i h = at-each (λ k. test (getD rows k other)) 0 (length rows) t i (omega arith) (omega arith)
+
+-- a test of neighbours passes at f first and f (first + 1), f (first + 1) and f (first + 2), .., count times; each is computed once
+unfoldable walk : (ℕ → ℕ → Bool) → (ℕ → ℕ) → ℕ → ℕ → ℕ → Bool
+walk test f here first zero = true
+walk test f here first (suc count) = let next : ℕ = f (suc first) in test here next && walk test f next (suc first) count
+
+unfoldable pub everyTwo : (ℕ → ℕ → Bool) → (ℕ → ℕ) → ℕ → ℕ → Bool
+unfolding walk
+everyTwo test f first count = walk test f (f first) first count
+
+as-every : (test : ℕ → ℕ → Bool) (f : ℕ → ℕ) (first count : ℕ) → walk test f (f first) first count ≡ every (λ k. test (f k) (f (suc k))) first count
+unfolding walk every
+as-every test f first zero = refl
+as-every test f first (suc count) = ap (λ b. test (f first) (f (suc first)) && b) (as-every test f (suc first) count)
+
+pub at-each-two : (test : ℕ → ℕ → Bool) (f : ℕ → ℕ) (first count : ℕ) → T (everyTwo test f first count) → (k : ℕ) → first ≤ k → k < first + count → T (test (f k) (f (k + 1)))
+unfolding everyTwo walk
+at-each-two test f first count t k low high =
+    let opened : T (every (λ i. test (f i) (f (suc i))) first count) = rw (as-every test f first count) at t in
+    rw add-one (at-each (λ i. test (f i) (f (suc i))) first count opened k low high)

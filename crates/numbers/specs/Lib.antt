@@ -2,3 +2,4 @@ pub mod Sign
 pub mod Rounding
 pub mod Difference
 pub mod Answer
+pub mod Spans

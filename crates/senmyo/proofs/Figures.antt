@@ -4,35 +4,22 @@ use mathlib.Core.Bool.{Bool, _&&_, true}
 use mathlib.Core.List.{List, [], _∷_, map}
 use Prim.Native.Nat.{ℕ, _+_, _-_, _%_}
 use lib.Dec.{leb, ltb}
-use lib.IntN.{ℤ}
 use Rattle.numbers.specs.Sign.{plus, minus, whole}
-use Rattle.numbers.specs.Rounding.{nearest}
-use Rattle.units.specs.Units.{fen, fenToByo, byoToFen, byoToAnomalySeconds, wholeDays, fenOfDay}
-use Rattle.senmyo.specs.Means.{solstice, dayNumber, midTerm, rainWater, meanNewMoon}
-use Rattle.sun.specs.Sun.{solsticeRow, laterRows, placeIn, sunPlace, afterDays, onDay, sunShare, sunOf}
-use Rattle.moon.specs.Moon.{upperRows, lowerRows, shareOf, inHalf, halfOf, moonOf}
-use Rattle.senmyo.specs.Phases.{corrections, newMoon, advancedDay, newMoonDay, fullMoon, fullMoonFen}
-
--- both corrections at mean new moon k
-sunAt : ℕ → ℤ
-unfolding sunOf sunShare afterDays onDay sunPlace placeIn solsticeRow laterRows nearest
-sunAt k = sunOf (fenToByo (meanNewMoon k))
-
-moonAt : ℕ → ℤ
-unfolding moonOf halfOf inHalf shareOf upperRows lowerRows nearest
-moonAt k = moonOf (byoToAnomalySeconds (fenToByo (meanNewMoon k)))
+use Rattle.units.specs.Units.{fen, wholeDays, fenOfDay}
+use Rattle.senmyo.specs.Means.{solstice, dayNumber, midTermDay, rainWater, meanNewMoon}
+use Rattle.senmyo.specs.Phases.{corrections, newMoon, newMoonDay, fullMoon, fullMoonFen}
+use Rattle.senmyo.proofs.Worked.{sunAt, moonAt, dayAt}
 
 -- the fen of the day of true new moon k, and by how many days it moves
 newMoonAt : ℕ → List ℕ
-unfolding sunAt moonAt corrections newMoon advancedDay
+unfolding dayAt
 newMoonAt k = fenOfDay (newMoon k) .0 ∷ (newMoonDay k - wholeDays (newMoon k)) ∷ []
 
 -- new moon k opens the month that has the Rain Water of year y
 opens : ℕ → ℕ → Bool
 unfolding newMoonAt
 opens y k =
-    let day : ℕ = wholeDays (byoToFen (midTerm (rainWater y))) in
-    leb (newMoonDay k) day && ltb day (newMoonDay (k + 1))
+    leb (newMoonDay k) (midTermDay (rainWater y)) && ltb (midTermDay (rainWater y)) (newMoonDay (k + 1))
 
 -- months 1 of 1522 and of 1413
 abbrev first-1522 : ℕ
@@ -80,11 +67,6 @@ month-2-of-1522 = refl
 month-5-of-1522 : newMoonAt (first-1522 + 4) ≡ 7941 ∷ 1 ∷ []
 unfolding newMoonAt
 month-5-of-1522 = refl
-
--- the first days of the months, as 01 prints the year
-first-days-1522 : map (λ (k : ℕ). dayNumber (newMoonDay k)) months ≡ plus 2276996 ∷ plus 2277025 ∷ plus 2277055 ∷ plus 2277084 ∷ plus 2277114 ∷ plus 2277143 ∷ plus 2277172 ∷ plus 2277202 ∷ plus 2277231 ∷ plus 2277261 ∷ plus 2277290 ∷ plus 2277320 ∷ []
-unfolding months newMoonAt
-first-days-1522 = refl
 
 full-moon-1522 : fenOfDay (fullMoonFen (first-1522 + 1)) ≡ fen 6215
 unfolding sunAt moonAt corrections fullMoon

@@ -1,3 +1,5 @@
 pub mod MeanLaws
 pub mod PhaseLaws
+pub mod Worked
+pub mod Lengths
 pub mod Figures

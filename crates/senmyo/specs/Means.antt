@@ -1,9 +1,9 @@
 -- Means of Senmyo, counted from the start of the count (01, "Senmyo means"; 000, 004).
-use Prim.Native.Nat.{ℕ, _+_, _-_, _*_}
+use Prim.Native.Nat.{ℕ, _+_, _-_, _*_, _/_}
 use lib.IntN.{ℤ, pos, _-ℤ_}
 use Rattle.units.specs.declared.Fen.{Fen}
 use Rattle.units.specs.declared.Byo.{Byo}
-use Rattle.units.specs.Units.{fen, byo, fenToByo}
+use Rattle.units.specs.Units.{fen, byo, fenToByo, byoToFen, dayFen, wholeDays}
 use Rattle.sun.specs.Sun.{year}
 
 -- accumulated years of year Y: 7,070,138 + (Y − 822)
@@ -26,6 +26,10 @@ termSpacing = byo (fenToByo (fen 127835) .0 + 5)
 abbrev pub midTerm : ℕ → Byo
 midTerm j = byo (2 * termSpacing .0 * j)
 
+-- .. and its day, in whole days from the start of the count
+abbrev pub midTermDay : ℕ → ℕ
+midTermDay j = wholeDays (byoToFen (midTerm j))
+
 -- the number of the mid-term of month 1 of year Y, two after the solstice's, which is that of month 11
 abbrev pub rainWater : ℕ → ℕ
 rainWater y = 12 * accumulatedYears y + 2
@@ -33,6 +37,10 @@ rainWater y = 12 * accumulatedYears y + 2
 -- mean new moon k
 abbrev pub meanNewMoon : ℕ → Fen
 meanNewMoon k = fen (248057 * k)
+
+-- the last mean new moon by the start of a day
+abbrev pub meanMonth : ℕ → ℕ
+meanMonth day = dayFen * day / 248057
 
 -- the mean full moon after it: 124,028 1/2 fen
 abbrev pub meanFullMoon : ℕ → Byo

@@ -1,12 +1,15 @@
 pub use moon::moon_of;
 pub use sun::sun_of;
+use units::BYO_OF_DAY;
 use units::BYO_OF_FEN;
 use units::Byo;
+use units::FEN_OF_DAY;
 use units::Fen;
 ghost use mathlib.Core.Path.{_≡_};
 ghost use Prim.Native.Nat.{_<_, _^_};
 ghost use lib.IntN.{pos, _+ℤ_, _*ℤ_};
-ghost use Rattle.senmyo.specs.Means.{midTerm, meanNewMoon, meanFullMoon};
+ghost use Rattle.numbers.specs.Spans.{Holds};
+ghost use Rattle.senmyo.specs.Means.{midTerm, midTermDay, rainWater, meanNewMoon, meanMonth, meanFullMoon};
 ghost use Rattle.senmyo.specs.Phases.{corrections, newMoon, advancedDay, newMoonDay, fullMoon, fullMoonFen};
 ghost use Rattle.senmyo.specs.Room.{Movable};
 
@@ -26,11 +29,39 @@ pub fn mid_term(number: u32) -> Byo
     Byo(MID_TERM * (number as u64))
 }
 
+// Its day, in whole days from the start of the count.
+pub fn mid_term_day(number: u32) -> u64
+    ensures { λ r. ⌜ r ≡ midTermDay number ⌝ }
+{
+    units::whole_days(units::byo_to_fen(mid_term(number)))
+}
+
+// The last mid-term by the end of a day.
+pub fn mid_term_by(day: u32) -> u32
+    ensures { λ r. ⌜ Holds midTermDay r day ⌝ }
+{
+    ((BYO_OF_DAY * (day as u64 + 1) - 1) / MID_TERM) as u32
+}
+
+// The number of the Rain Water of a year: 12 mid-terms for each accumulated year, and two from the solstice on.
+pub fn rain_water(year: u16) -> u32
+    ensures { λ r. ⌜ r ≡ rainWater year ⌝ }
+{
+    12 * (7070138 + year as u32 - 822) + 2
+}
+
 // Mean new moon `number`, of which the first stands at the start of the count.
 pub fn mean_new_moon(number: u32) -> Fen
     ensures { λ r. ⌜ r ≡ meanNewMoon number ⌝ }
 {
     Fen(MONTH * (number as u64))
+}
+
+// The last mean new moon by the start of a day.
+pub fn mean_month(day: u32) -> u32
+    ensures { λ r. ⌜ r ≡ meanMonth day ⌝ }
+{
+    (FEN_OF_DAY * (day as u64) / MONTH) as u32
 }
 
 // The mean full moon after new moon `number`.

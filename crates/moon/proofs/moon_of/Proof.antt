@@ -12,8 +12,6 @@ use Rattle.moon.specs.Moon.{halfOf}
 use Rattle.moon.proofs.Rows.{Sized, half-sized, moon-upper, moon-lower}
 use Rattle.moon.proofs.moon_of.Statement.{statement}
 use Rattle.moon.proofs.moon_of.Tie as tie
-use Rattle.moon.proofs.moon_of.Reads as reads
-use Rattle.moon.proofs.moon_of.Lts as lts
 
 -- a part of a fen is read back from its word as it is, and so is its negative
 back : (s : Share) → Sized s → toZ w64 (ofZ w64 (s .numerator)) ≡ s .numerator

@@ -12,8 +12,6 @@ use borrow.Author.Needs.{needs}
 use Rattle.numbers.proofs.Signs.{not-below, below, flipped, one-below}
 use Rattle.numbers.proofs.floor_of.Statement.{statement}
 use Rattle.numbers.proofs.floor_of.Tie as tie
-use Rattle.numbers.proofs.floor_of.Reads as reads
-use Rattle.numbers.proofs.floor_of.Lts as lts
 
 -- z ≥ 0: z is a natural, and the quotient fits
 record Up (c : tie.Then1) : Type 0 where

@@ -10,9 +10,6 @@ use Rattle.numbers.specs.Rounding.{nearest}
 use Rattle.numbers.proofs.Size.{Small, small-pos, small-add, small-mul, small-fits}
 use Rattle.numbers.proofs.nearest_of.Statement.{statement}
 use Rattle.numbers.proofs.nearest_of.Tie as tie
-use Rattle.numbers.proofs.nearest_of.Reads as reads
-use Rattle.numbers.proofs.nearest_of.Lts as lts
-use Rattle.numbers.proofs.floor_of.Reads as floor-of-reads
 
 record Inside (c : tie.Start) : Type 0 where
   double : SFits w64 (c .args .z *ℤ pos 2)

@@ -1,0 +1,30 @@
+-- The means of Genka agree with each other as 01 says, its months have 29 or 30 days, and its mid-terms lie 30 or 31 days apart.
+use mathlib.Core.Path.{_≡_}
+use Prim.Native.Nat.{ℕ, _+_, _*_, _/_, _<_, _≤_}
+use native.Mathlib.Omega.{arith}
+use Rattle.numbers.specs.Spans.{Takes}
+use Rattle.genka.specs.Genka.{newMoonDay, midTermDay, yearsSinceOrigin, rainWater, meanMonth}
+
+-- the Rain Water of a year is at 222,070 k/608 days
+rain-water-day : (y : ℕ) → midTermDay (rainWater y) ≡ 222070 * yearsSinceOrigin y / 608
+rain-water-day y = omega arith
+
+pub month-takes : (k : ℕ) → Takes newMoonDay k 29 30
+month-takes k = record { at-least = omega arith; at-most = omega arith }
+
+pub term-takes : (j : ℕ) → Takes midTermDay j 30 31
+term-takes j = record { at-least = omega arith; at-most = omega arith }
+
+-- the mid-terms of 14 years take no more than 5,114 days, and 174 months take more
+pub months-of-14-years : (k : ℕ) → newMoonDay k + 5114 < newMoonDay (k + 174)
+months-of-14-years k = omega arith
+
+pub terms-of-14-years : (j : ℕ) → midTermDay (j + 168) ≤ midTermDay j + 5114
+terms-of-14-years j = omega arith
+
+-- the new moon before a day's start opens the month of that day, or the month before
+pub opened-by-start : (d : ℕ) → newMoonDay (meanMonth d) ≤ d
+opened-by-start d = omega arith
+
+pub second-opens-after : (d : ℕ) → d < newMoonDay (meanMonth d + 2)
+second-opens-after d = omega arith

@@ -1,0 +1,2 @@
+pub mod GenkaLaws
+pub mod Figures

@@ -1,0 +1,39 @@
+-- Genka, counted from its origin (01, "Months and leap" and the last sentence of "Units"; 001).
+use Prim.Native.Nat.{ℕ, _+_, _*_, _/_}
+use lib.IntN.{ℤ, pos, _-ℤ_}
+use Rattle.genka.specs.declared.Part.{Part}
+
+abbrev pub part : ℕ → Part
+part n = record { 0 = n }
+
+-- a day has 752 parts
+abbrev pub dayParts : ℕ
+dayParts = 752
+
+-- new moons are 22,207/752 days apart: new moon j
+abbrev pub newMoon : ℕ → Part
+newMoon j = part (22207 * j)
+
+-- .. and its day, with no correction and no advance, in whole days from the origin
+abbrev pub newMoonDay : ℕ → ℕ
+newMoonDay j = newMoon j .0 / dayParts
+
+-- mid-terms are 222,070/7,296 days apart: the day of mid-term j
+abbrev pub midTermDay : ℕ → ℕ
+midTermDay j = 222070 * j / 7296
+
+-- year Y starts with k = Y + 5260 years since the origin
+abbrev pub yearsSinceOrigin : ℕ → ℕ
+yearsSinceOrigin y = y + 5260
+
+-- the number of that year's Rain Water, of which there is one in twelve mid-terms
+abbrev pub rainWater : ℕ → ℕ
+rainWater y = 12 * yearsSinceOrigin y
+
+-- the day number of a count of whole days
+abbrev pub dayNumber : ℕ → ℤ
+dayNumber days = pos days -ℤ pos 200089
+
+-- the last new moon by the start of a day
+abbrev pub meanMonth : ℕ → ℕ
+meanMonth day = dayParts * day / 22207

@@ -1,0 +1,58 @@
+ghost use mathlib.Core.Path.{_≡_};
+ghost use Rattle.numbers.specs.Spans.{Holds};
+ghost use Rattle.genka.specs.Genka.{newMoon, newMoonDay, midTermDay, rainWater, meanMonth};
+
+// 1/752 of a day.
+pub struct Part(pub u64);
+
+const PARTS_OF_DAY: u64 = 752;
+
+// From a new moon to the next, in parts.
+const MONTH: u64 = 22207;
+
+// Mid-terms are 222,070/7,296 days apart.
+const MID_TERM: u64 = 222070;
+
+const MID_TERM_DAY: u64 = 7296;
+
+// New moon `number`, of which the first stands at the origin.
+pub fn new_moon(number: u32) -> Part
+    ensures { λ r. ⌜ r ≡ newMoon number ⌝ }
+{
+    Part(MONTH * (number as u64))
+}
+
+// Its day, in whole days from the origin.
+pub fn new_moon_day(number: u32) -> u64
+    ensures { λ r. ⌜ r ≡ newMoonDay number ⌝ }
+{
+    new_moon(number).0 / PARTS_OF_DAY
+}
+
+// The last new moon by the start of a day.
+pub fn mean_month(day: u32) -> u32
+    ensures { λ r. ⌜ r ≡ meanMonth day ⌝ }
+{
+    (PARTS_OF_DAY * (day as u64) / MONTH) as u32
+}
+
+// The day of mid-term `number`, of which the first stands at the origin too.
+pub fn mid_term_day(number: u32) -> u64
+    ensures { λ r. ⌜ r ≡ midTermDay number ⌝ }
+{
+    MID_TERM * (number as u64) / MID_TERM_DAY
+}
+
+// The last mid-term by the end of a day.
+pub fn mid_term_by(day: u32) -> u32
+    ensures { λ r. ⌜ Holds midTermDay r day ⌝ }
+{
+    ((MID_TERM_DAY * (day as u64 + 1) - 1) / MID_TERM) as u32
+}
+
+// The number of the Rain Water of a year.
+pub fn rain_water(year: u16) -> u32
+    ensures { λ r. ⌜ r ≡ rainWater year ⌝ }
+{
+    12 * (year as u32 + 5260)
+}

@@ -1,0 +1,76 @@
+-- Both calendars are steady, and their months and mid-terms are small enough for the words that count them.
+use Prim.Native.Nat.{ℕ, _+_, _*_, _<_, _≤_, _^_}
+use native.Mathlib.Omega.{arith}
+use Rattle.numbers.proofs.Spans.{growing}
+use Rattle.senmyo.proofs.Lengths as senmyo-lengths
+use Rattle.genka.proofs.GenkaLaws as genka-laws
+use Rattle.months.specs.declared.Calendar.{Calendar}
+use Rattle.months.specs.declared.Calendar.the-variants.{Senmyo, Genka}
+use Rattle.months.specs.Rules.{Rules, senmyo, genka, rulesOf}
+use Rattle.months.specs.Room.{meanMonth}
+use Rattle.months.proofs.Steady.{Steady}
+
+pub senmyo-steady : Steady senmyo
+senmyo-steady =
+    record {
+      months-grow = senmyo-lengths.new-moons-grow;
+      terms-grow = growing (senmyo .mid) 30 31 (omega arith) (omega arith) senmyo-lengths.term-takes;
+      terms-apart = senmyo-lengths.term-takes;
+      twelve-terms = λ y. omega arith;
+      numbers = λ y i h. omega (arith, h);
+    }
+
+pub genka-steady : Steady genka
+genka-steady =
+    record {
+      months-grow = growing (genka .start) 29 30 (omega arith) (omega arith) genka-laws.month-takes;
+      terms-grow = growing (genka .mid) 30 31 (omega arith) (omega arith) genka-laws.term-takes;
+      terms-apart = genka-laws.term-takes;
+      twelve-terms = λ y. omega arith;
+      numbers = λ y i h. omega (arith, h);
+    }
+
+pub steady : (c : Calendar) → Steady (rulesOf c)
+unfolding rulesOf
+steady Senmyo = senmyo-steady
+steady Genka = genka-steady
+
+-- ---- the words that count them
+
+pub record Sizes (r : Rules) : Type 0 where
+  pub start-size : (k : ℕ) → r .start k ≤ 30 * k
+  pub mid-size : (j : ℕ) → r .mid j ≤ 31 * j
+  pub zeroth-from : 1 ≤ r .zerothNumber
+  pub zeroth-to : r .zerothNumber ≤ 12
+  pub rain-water-size : (y : ℕ) → y < 2 ^ 16 → r .rainWater y + 2 ^ 8 < 2 ^ 27
+
+pub sizes : (c : Calendar) → Sizes (rulesOf c)
+unfolding rulesOf
+sizes Senmyo =
+    record {
+      start-size = λ k. omega (arith, senmyo-lengths.near-mean k);
+      mid-size = λ j. omega arith;
+      zeroth-from = omega arith;
+      zeroth-to = omega arith;
+      rain-water-size = λ y h. omega (arith, h);
+    }
+sizes Genka =
+    record {
+      start-size = λ k. omega arith;
+      mid-size = λ j. omega arith;
+      zeroth-from = omega arith;
+      zeroth-to = omega arith;
+      rain-water-size = λ y h. omega (arith, h);
+    }
+
+-- ---- the mean month of a day opens the month of that day, or the month before
+
+pub record Guess (c : Calendar) (d : ℕ) : Type 0 where
+  pub opened : rulesOf c .start (meanMonth c d) ≤ d
+  pub soon : d < rulesOf c .start (meanMonth c d + 2)
+  pub small : 29 * meanMonth c d ≤ d
+
+pub guess : (c : Calendar) (d : ℕ) → Guess c d
+unfolding rulesOf meanMonth
+guess Senmyo d = record { opened = senmyo-lengths.opened-by-start d; soon = senmyo-lengths.second-opens-after d; small = omega arith }
+guess Genka d = record { opened = genka-laws.opened-by-start d; soon = genka-laws.second-opens-after d; small = omega arith }

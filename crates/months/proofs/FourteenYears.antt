@@ -1,0 +1,34 @@
+-- Fourteen consecutive years have at most 174 months, in any calendar whose mid-terms of fourteen years take less than 174 months do.
+use mathlib.Core.Path.{_≡_}
+use Prim.Native.Nat.{ℕ, _+_, _-_, _*_, _<_, _≤_}
+use native.Mathlib.Omega.{arith}
+use Rattle.numbers.proofs.Spans.{later, span-to}
+use Rattle.senmyo.proofs.Lengths as senmyo-lengths
+use Rattle.genka.proofs.GenkaLaws as genka-laws
+use Rattle.months.specs.declared.Calendar.{Calendar}
+use Rattle.months.specs.declared.Calendar.the-variants.{Senmyo, Genka}
+use Rattle.months.specs.Rules.{Rules, senmyo, genka, rulesOf}
+use Rattle.months.specs.Months.{firstMonth}
+use Rattle.months.proofs.Steady.{Steady}
+use Rattle.months.proofs.FirstMonths.{opens, twelve-a-year}
+use Rattle.months.proofs.Calendars.{senmyo-steady, genka-steady}
+
+record Fourteen (r : Rules) : Type 0 where
+  months : (k : ℕ) → r .start k + 5114 < r .start (k + 174)
+  terms : (j : ℕ) → r .mid (j + 168) ≤ r .mid j + 5114
+
+module _ (r : Rules) (s : Steady r) where
+  -- n years on, at most 14, lies before the end of 174 months
+  ends : (y n : ℕ) → n ≤ 14 → Fourteen r → firstMonth r (y + n) ≤ firstMonth r y + 174
+  unfolding firstMonth
+  ends y n h f =
+      let R = r .rainWater y in
+      let late = later (r .mid) (s .terms-grow) (R + 12 * n) (R + 168) (omega (arith, h)) in
+      let e : (firstMonth r y + 1) + 174 ≡ firstMonth r y + 174 + 1 = omega arith in
+      let many : r .start (firstMonth r y + 1) + 5114 < r .start (firstMonth r y + 174 + 1) = rw e at (f .months (firstMonth r y + 1)) in
+      rw (twelve-a-year r s y n) (span-to (r .start) (s .months-grow) (firstMonth r y + 174) (r .mid (R + 12 * n)) (omega (arith, late, many, f .terms R, opens r s y .to)))
+
+pub at-most-174 : (c : Calendar) (y n : ℕ) → n ≤ 14 → firstMonth (rulesOf c) (y + n) ≤ firstMonth (rulesOf c) y + 174
+unfolding rulesOf
+at-most-174 Senmyo y n h = ends senmyo senmyo-steady y n h (record { months = senmyo-lengths.months-of-14-years; terms = senmyo-lengths.terms-of-14-years })
+at-most-174 Genka y n h = ends genka genka-steady y n h (record { months = genka-laws.months-of-14-years; terms = genka-laws.terms-of-14-years })

@@ -1,0 +1,92 @@
+-- Mid-terms in months: a month is leap exactly if it has none, no month has two, and a month's number is that of the last mid-term by its end.
+use mathlib.Core.Path.{_≡_, refl, ap, _∙_}
+use mathlib.Core.Bool.{Bool, true, false}
+use Prim.Native.Nat.{ℕ, zero, suc, _+_, _-_, _<_, _≤_}
+use native.Mathlib.Omega.{arith}
+use borrow.Author.Tests.{ltb-true, ltb-false, le-ltb}
+use lib.Dec.{ltb}
+use Rattle.numbers.specs.Spans.{Holds}
+use Rattle.numbers.proofs.Spans.{later, not-after, span-holds, span-is}
+use Rattle.months.specs.Rules.{Rules}
+use Rattle.months.specs.Months.{HasTerm, termNumber, lastTerm, isLeap, numberOf, nameOf}
+use Rattle.months.proofs.Steady.{Steady}
+
+module _ (r : Rules) (s : Steady r) (k : ℕ) where
+  last-term : Holds (r .mid) (lastTerm r k) (r .start (k + 1) - 1)
+  unfolding lastTerm
+  last-term = span-holds (r .mid) (s .terms-grow) _
+
+  -- .. is the one that has fallen by then while the next has not
+  last-term-told : (j : ℕ) → Holds (r .mid) j (r .start (k + 1) - 1) → lastTerm r k ≡ j
+  unfolding lastTerm
+  last-term-told j h = span-is (r .mid) (s .terms-grow) j _ h
+
+  -- a mid-term of the month falls by its end, so that it is not after the last that does
+  not-after-last : (j : ℕ) → HasTerm r k j → r .mid j ≤ r .mid (lastTerm r k)
+  not-after-last j h =
+      let before = not-after (r .mid) (s .terms-grow) j (lastTerm r k) _ (omega (arith, h .to)) (last-term .to) in
+      omega (arith, later (r .mid) (s .terms-grow) j (lastTerm r k) before)
+
+  pub leap-has-none : isLeap r k ≡ true → (j : ℕ) → HasTerm r k j → ⊥
+  unfolding isLeap
+  leap-has-none e j h = omega (arith, ltb-true (r .mid (lastTerm r k)) (r .start k) e, h .from, not-after-last j h)
+
+  pub has-not-leap : (j : ℕ) → HasTerm r k j → isLeap r k ≡ false
+  unfolding isLeap
+  has-not-leap j h = le-ltb (r .mid (lastTerm r k)) (r .start k) (omega (arith, h .from, not-after-last j h))
+
+  pub not-leap-has : isLeap r k ≡ false → HasTerm r k (lastTerm r k)
+  unfolding isLeap
+  not-leap-has e = record { from = ltb-false _ _ e; to = omega (arith, last-term .from, s .months-grow .grows k) }
+
+  pub has-none-leap : ((j : ℕ) → HasTerm r k j → ⊥) → isLeap r k ≡ true
+  has-none-leap none = by-leap (isLeap r k) refl
+    where
+      by-leap : (b : Bool) → isLeap r k ≡ b → isLeap r k ≡ true
+      by-leap true e = e
+      by-leap false e = absurd (none (lastTerm r k) (not-leap-has e))
+
+  -- no month of at most 30 days has two
+  pub one-term : (i j : ℕ) → r .start (k + 1) ≤ r .start k + 30 → HasTerm r k i → HasTerm r k j → i ≡ j
+  one-term i j short h g = by-order (ltb i j) (ltb j i) refl refl
+    where
+      two : (i j : ℕ) → HasTerm r k i → HasTerm r k j → i < j → ⊥
+      two i j h g o = omega (arith, short, h .from, g .to, s .terms-apart i .at-least, later (r .mid) (s .terms-grow) (i + 1) j (omega (arith, o)))
+
+      by-order : (b c : Bool) → ltb i j ≡ b → ltb j i ≡ c → i ≡ j
+      by-order true c e d = absurd (two i j h g (ltb-true _ _ e))
+      by-order false true e d = absurd (two j i g h (ltb-true _ _ d))
+      by-order false false e d = omega (arith, ltb-false i j e, ltb-false j i d)
+
+  pub last-term-is : (j : ℕ) → r .start (k + 1) ≤ r .start k + 30 → HasTerm r k j → lastTerm r k ≡ j
+  last-term-is j short h = one-term (lastTerm r k) j short (not-leap-has (has-not-leap j h)) h
+
+-- without a mid-term, the last by the end is the last by the eve of the month
+last-before : (r : Rules) → Steady r → (k : ℕ) → isLeap r k ≡ true → lastTerm r (k - 1) ≡ lastTerm r k
+unfolding isLeap lastTerm
+last-before r s zero e = refl
+last-before r s (suc k) e =
+    let before = ltb-true (r .mid (lastTerm r (suc k))) (r .start (suc k)) e in
+    let last = last-term r s (suc k) in
+    let eve : suc k - 1 + 1 ≡ suc k = omega arith in
+    rw eve
+    (span-is (r .mid) (s .terms-grow) (lastTerm r (suc k)) (r .start (suc k) - 1)
+    (record { from = omega (arith, before); to = omega (arith, last .to, s .months-grow .grows (suc k)) }))
+
+pub number-of-leap : (r : Rules) (k : ℕ) → isLeap r k ≡ true → numberOf r k ≡ termNumber r (lastTerm r (k - 1))
+unfolding numberOf
+number-of-leap r k e = rw (e, numberOf)
+
+-- so in either case a month's number is that of the last mid-term by its end
+pub number-of-last : (r : Rules) → Steady r → (k : ℕ) → numberOf r k ≡ termNumber r (lastTerm r k)
+unfolding numberOf
+number-of-last r s k = by-leap (isLeap r k) refl
+  where
+    by-leap : (b : Bool) → isLeap r k ≡ b → numberOf r k ≡ termNumber r (lastTerm r k)
+    by-leap true e = number-of-leap r k e ∙ ap (termNumber r) (last-before r s k e)
+    by-leap false e = rw (e, numberOf)
+
+-- and its name is told by that mid-term
+pub name-told : (r : Rules) → Steady r → (k j : ℕ) → Holds (r .mid) j (r .start (k + 1) - 1) → nameOf r k ≡ record { number = termNumber r j; leap = ltb (r .mid j) (r .start k) }
+unfolding isLeap
+name-told r s k j h = let e = last-term-told r s k j h in rw (number-of-last r s k, e)

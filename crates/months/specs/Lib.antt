@@ -1,0 +1,4 @@
+pub mod Rules
+pub mod Months
+pub mod Year
+pub mod Room

@@ -1,0 +1,54 @@
+-- The two calendars as one thing: what "Months and leap" of 01 asks of a calendar, and what each of them gives. Days are whole days
+-- from the calendar's own origin.
+use Prim.Native.Nat.{ℕ}
+use lib.IntN.{ℤ}
+use Rattle.senmyo.specs.Means as senmyo-means
+use Rattle.senmyo.specs.Phases as senmyo-phases
+use Rattle.genka.specs.Genka as genka-means
+use Rattle.months.specs.declared.Calendar.{Calendar}
+use Rattle.months.specs.declared.Calendar.the-variants.{Senmyo, Genka}
+
+pub record Rules : Type 0 where
+  -- the covered years
+  pub firstYear : ℕ
+  pub lastYear : ℕ
+  -- the day of new moon k
+  pub start : ℕ → ℕ
+  -- the day of mid-term j
+  pub mid : ℕ → ℕ
+  -- the number of the month whose mid-term is mid-term 0
+  pub zerothNumber : ℕ
+  -- the mid-term that is the Rain Water of year y
+  pub rainWater : ℕ → ℕ
+  -- the day number of a day
+  pub dayNumber : ℕ → ℤ
+
+-- mid-term 0 is a solstice, of month 11
+abbrev pub senmyo : Rules
+senmyo =
+    record {
+      firstYear = 822;
+      lastYear = 1684;
+      start = λ k. senmyo-phases.newMoonDay k;
+      mid = λ j. senmyo-means.midTermDay j;
+      zerothNumber = 11;
+      rainWater = λ y. senmyo-means.rainWater y;
+      dayNumber = λ d. senmyo-means.dayNumber d;
+    }
+
+-- mid-term 0 is a Rain Water, of month 1
+abbrev pub genka : Rules
+genka =
+    record {
+      firstYear = 445;
+      lastYear = 697;
+      start = λ k. genka-means.newMoonDay k;
+      mid = λ j. genka-means.midTermDay j;
+      zerothNumber = 1;
+      rainWater = λ y. genka-means.rainWater y;
+      dayNumber = λ d. genka-means.dayNumber d;
+    }
+
+unfoldable pub rulesOf : Calendar → Rules
+rulesOf Senmyo = senmyo
+rulesOf Genka = genka

@@ -1,0 +1,65 @@
+-- What the third demand says of a year.
+use mathlib.Core.Path.{_≡_}
+use mathlib.Core.Bool.{true, false}
+use Prim.Native.Nat.{ℕ, _+_, _<_, _≤_}
+use Rattle.numbers.specs.Spans.{Takes}
+use Rattle.months.specs.Rules.{Rules}
+use Rattle.months.specs.Months.{Has, HasTerm, firstMonth, monthCount, firstDay, nextFirstDay, numberOf, isLeap}
+
+-- a month has 29 or 30 days
+abbrev pub MonthDays : Rules → ℕ → Type 0
+MonthDays r k = Takes (r .start) k 29 30
+
+-- two mid-terms lie 30 or 31 days apart
+abbrev pub TermDays : Rules → ℕ → Type 0
+TermDays r j = Takes (r .mid) j 30 31
+
+-- month k is one of year y's
+pub record OfYear (r : Rules) (y k : ℕ) : Type 0 where
+  pub from : firstMonth r y ≤ k
+  pub to : k < firstMonth r (y + 1)
+
+-- exactly one month has day d, and it is one of year y's
+pub record OneMonth (r : Rules) (y d : ℕ) : Type 0 where
+  pub month : ℕ
+  pub of-year : OfYear r y month
+  pub has : Has r month d
+  pub no-other : (k : ℕ) → Has r k d → k ≡ month
+
+-- month k takes number i + 1 in year y: it holds the mid-term of that number and no other
+pub record Numbered (r : Rules) (y i k : ℕ) : Type 0 where
+  pub number : numberOf r k ≡ i + 1
+  pub not-leap : isLeap r k ≡ false
+  pub holds : HasTerm r k (r .rainWater y + i)
+  pub no-other : (j : ℕ) → HasTerm r k j → j ≡ r .rainWater y + i
+
+-- month k is leap, after number n: it holds no mid-term
+pub record LeapAfter (r : Rules) (n k : ℕ) : Type 0 where
+  pub number : numberOf r k ≡ n
+  pub leap : isLeap r k ≡ true
+  pub holds-none : (j : ℕ) → HasTerm r k j → ⊥
+
+-- twelve months, each with the mid-term of its number
+pub record Twelve (r : Rules) (y : ℕ) : Type 0 where
+  pub count : monthCount r y ≡ 12
+  pub each : (i : ℕ) → i < 12 → Numbered r y i (firstMonth r y + i)
+
+-- thirteen: one of them is leap, after number n, and each other has the mid-term of its number
+pub record Thirteen (r : Rules) (y : ℕ) : Type 0 where
+  pub count : monthCount r y ≡ 13
+  pub n : ℕ
+  pub n-from : 1 ≤ n
+  pub n-to : n ≤ 12
+  pub leap : LeapAfter r n (firstMonth r y + n)
+  pub before : (i : ℕ) → i < n → Numbered r y i (firstMonth r y + i)
+  pub behind : (i : ℕ) → n ≤ i → i < 12 → Numbered r y i (firstMonth r y + i + 1)
+
+pub data TwelveOrThirteen (r : Rules) (y : ℕ) : Type 0 where
+  twelve : Twelve r y → TwelveOrThirteen r y
+  thirteen : Thirteen r y → TwelveOrThirteen r y
+
+-- the months follow each other without gap or overlap, from the year's first day to the eve of the next year's, each of 29 or 30 days
+pub record Year (r : Rules) (y : ℕ) : Type 0 where
+  pub length : (k : ℕ) → OfYear r y k → MonthDays r k
+  pub one-month : (d : ℕ) → firstDay r y ≤ d → d < nextFirstDay r y → OneMonth r y d
+  pub months : TwelveOrThirteen r y

@@ -1,0 +1,101 @@
+-- How long months and mid-terms of Senmyo last. Of every month, the corrections' bounds tell that it has 28 to 31 days; that it has 29 or 30 is
+-- computed for the months that the covered years need.
+use mathlib.Core.Bool.{Bool, _&&_}
+use Prim.Native.Nat.{ℕ, _+_, _*_, _<_, _≤_}
+use native.Mathlib.Omega.{arith}
+use lib.Dec.{T, leb, leb→le, ltb→lt}
+use lib.IntN.{pos, _+ℤ_}
+use mir.Facts.{and-yes}
+use Rattle.numbers.specs.Difference.{Is}
+use Rattle.numbers.specs.Spans.{Takes}
+use Rattle.numbers.proofs.Difference.{is-pos, is-neg, is-add, is-parts, is-one}
+use Rattle.numbers.proofs.Order.{le-is}
+use Rattle.numbers.proofs.Spans.{Growing}
+use Rattle.numbers.proofs.Tests.{everyTwo, at-each-two}
+use Rattle.units.specs.Units.{fenToByo, byoToAnomalySeconds}
+use Rattle.sun.specs.Sun.{sunOf}
+use Rattle.moon.specs.Moon.{moonOf}
+use Rattle.sun.proofs.Bounds.{sun-bounds}
+use Rattle.moon.proofs.Rows.{moon-bounds}
+use Rattle.senmyo.specs.Means.{meanNewMoon, meanMonth, midTermDay, rainWater}
+use Rattle.senmyo.specs.Phases.{corrections, newMoon, newMoonDay}
+use Rattle.senmyo.proofs.Worked.{dayAt}
+use Rattle.senmyo.proofs.PhaseLaws.{new-moon-exact, advance-is-floor}
+
+-- the first month that is tested, one before month 1 of 822, and how many are, up to one after month 1 of 1685
+abbrev pub firstTested : ℕ
+firstTested = 87445919
+
+abbrev pub tested : ℕ
+tested = 10677
+
+-- from a new moon's day to the next
+monthTest : ℕ → ℕ → Bool
+monthTest here next = leb (here + 29) next && leb next (here + 30)
+
+all : T (everyTwo monthTest newMoonDay firstTested tested)
+unfolding everyTwo monthTest dayAt
+all = tt
+
+pub month-takes : (k : ℕ) → firstTested ≤ k → k < firstTested + tested → Takes newMoonDay k 29 30
+unfolding monthTest
+month-takes k low high =
+    let here = newMoonDay k in
+    let next = newMoonDay (k + 1) in
+    let (short, long) = and-yes (leb (here + 29) next) (leb next (here + 30)) (at-each-two monthTest newMoonDay firstTested tested all k low high) in
+    record { at-least = leb→le _ _ short; at-most = leb→le _ _ long }
+
+-- the tested months reach from before the first Rain Water to after the last
+pub tested-from : newMoonDay firstTested ≤ midTermDay (rainWater 822)
+unfolding dayAt
+tested-from = leb→le _ _ tt
+
+pub tested-to : midTermDay (rainWater 1685) < newMoonDay (firstTested + tested)
+unfolding dayAt
+tested-to = ltb→lt _ _ tt
+
+pub term-takes : (j : ℕ) → Takes midTermDay j 30 31
+term-takes j = record { at-least = omega arith; at-most = omega arith }
+
+-- ---- of every month, by the bounds of the corrections
+
+-- where the day of new moon k lies, beside its mean
+pub record NearMean (k : ℕ) : Type 0 where
+  pub not-late : 8400 * newMoonDay k ≤ 248057 * k + 6851
+  pub not-early : 248057 * k < 8400 * newMoonDay k + 11021
+
+pub near-mean : (k : ℕ) → NearMean k
+unfolding corrections
+near-mean k =
+    let mean = fenToByo (meanNewMoon k) in
+    let anomaly = byoToAnomalySeconds mean in
+    let sun = is-parts (sunOf mean) in
+    let moon = is-parts (moonOf anomaly) in
+    let told : Is (pos (248057 * k) +ℤ corrections mean) (newMoon k .0) 0 = rw (new-moon-exact k) at (is-pos (newMoon k .0)) in
+    let sum = is-one told (is-add (is-pos (248057 * k)) (is-add sun moon)) in
+    let sun-low = le-is (is-neg (is-pos 1526)) sun (sun-bounds mean .from) in
+    let sun-high = le-is sun (is-pos 1526) (sun-bounds mean .to) in
+    let moon-low = le-is (is-neg (is-pos 3195)) moon (moon-bounds anomaly .from) in
+    let moon-high = le-is moon (is-pos 3225) (moon-bounds anomaly .to) in
+    let day = advance-is-floor (newMoon k) in
+    record {
+      not-late = omega (arith, sum, sun-high, moon-high, day);
+      not-early = omega (arith, sum, sun-low, moon-low, day);
+    }
+
+pub new-moons-grow : Growing newMoonDay
+new-moons-grow = record { zeroth = omega (arith, near-mean 0); grows = λ k. omega (arith, near-mean k, near-mean (k + 1)) }
+
+-- the mid-terms of 14 years take no more than 5,114 days, and 174 months take more
+pub months-of-14-years : (k : ℕ) → newMoonDay k + 5114 < newMoonDay (k + 174)
+months-of-14-years k = omega (arith, near-mean k, near-mean (k + 174))
+
+pub terms-of-14-years : (j : ℕ) → midTermDay (j + 168) ≤ midTermDay j + 5114
+terms-of-14-years j = omega arith
+
+-- the mean new moon before a day's start opens the month of that day, or the month before
+pub opened-by-start : (d : ℕ) → newMoonDay (meanMonth d) ≤ d
+opened-by-start d = omega (arith, near-mean (meanMonth d))
+
+pub second-opens-after : (d : ℕ) → d < newMoonDay (meanMonth d + 2)
+second-opens-after d = omega (arith, near-mean (meanMonth d + 2))
