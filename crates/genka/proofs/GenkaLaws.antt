@@ -3,7 +3,8 @@ use mathlib.Core.Path.{_≡_}
 use Prim.Native.Nat.{ℕ, _+_, _*_, _/_, _<_, _≤_}
 use native.Mathlib.Omega.{arith}
 use Rattle.numbers.specs.Spans.{Takes}
-use Rattle.genka.specs.Genka.{newMoonDay, midTermDay, yearsSinceOrigin, rainWater, meanMonth}
+use Rattle.genka.specs.Genka.{newMoonDay, midTermDay, yearsSinceOrigin, rainWater}
+use Rattle.genka.specs.Room.{meanMonth}
 
 -- the Rain Water of a year is at 222,070 k/608 days
 rain-water-day : (y : ℕ) → midTermDay (rainWater y) ≡ 222070 * yearsSinceOrigin y / 608

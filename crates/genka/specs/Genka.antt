@@ -33,7 +33,3 @@ rainWater y = 12 * yearsSinceOrigin y
 -- the day number of a count of whole days
 abbrev pub dayNumber : ℕ → ℤ
 dayNumber days = pos days -ℤ pos 200089
-
--- the last new moon by the start of a day
-abbrev pub meanMonth : ℕ → ℕ
-meanMonth day = dayParts * day / 22207

@@ -1,1 +1,2 @@
 pub mod Genka
+pub mod Room

@@ -1,6 +1,7 @@
 ghost use mathlib.Core.Path.{_≡_};
 ghost use Rattle.numbers.specs.Spans.{Holds};
-ghost use Rattle.genka.specs.Genka.{newMoon, newMoonDay, midTermDay, rainWater, meanMonth};
+ghost use Rattle.genka.specs.Genka.{newMoon, newMoonDay, midTermDay, rainWater};
+ghost use Rattle.genka.specs.Room.{meanMonth};
 
 // 1/752 of a day.
 pub struct Part(pub u64);

@@ -166,9 +166,9 @@ module _ (r : Rules) (s : Steady r) (y : ℕ) (length : (k : ℕ) → firstMonth
       from-gap g =
           record {
             count = omega (arith, e);
-            n = g .t + 1;
-            n-from = omega arith;
-            n-to = omega (arith, g .t-to);
+            leapNumber = g .t + 1;
+            from-1 = omega arith;
+            to-12 = omega (arith, g .t-to);
             leap = leap-after g;
             before = λ i h.
                 let up : i + (g .t - i) ≡ g .t = omega (arith, h) in

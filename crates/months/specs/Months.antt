@@ -33,7 +33,7 @@ firstDay r y = r .start (firstMonth r y)
 abbrev pub nextFirstDay : Rules → ℕ → ℕ
 nextFirstDay r y = firstDay r (y + 1)
 
--- the number, 1 to 12, of the months whose mid-term is j
+-- the number, 1 to 12, of the month whose mid-term is j
 abbrev pub termNumber : Rules → ℕ → ℕ
 termNumber r j = (j + r .zerothNumber - 1) % 12 + 1
 

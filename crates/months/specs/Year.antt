@@ -39,20 +39,20 @@ pub record LeapAfter (r : Rules) (n k : ℕ) : Type 0 where
   pub leap : isLeap r k ≡ true
   pub holds-none : (j : ℕ) → HasTerm r k j → ⊥
 
--- twelve months, each with the mid-term of its number
+-- twelve: each has the mid-term of its number
 pub record Twelve (r : Rules) (y : ℕ) : Type 0 where
   pub count : monthCount r y ≡ 12
   pub each : (i : ℕ) → i < 12 → Numbered r y i (firstMonth r y + i)
 
--- thirteen: one of them is leap, after number n, and each other has the mid-term of its number
+-- thirteen: one of them is leap, and each other, before it and behind it, has the mid-term of its number
 pub record Thirteen (r : Rules) (y : ℕ) : Type 0 where
   pub count : monthCount r y ≡ 13
-  pub n : ℕ
-  pub n-from : 1 ≤ n
-  pub n-to : n ≤ 12
-  pub leap : LeapAfter r n (firstMonth r y + n)
-  pub before : (i : ℕ) → i < n → Numbered r y i (firstMonth r y + i)
-  pub behind : (i : ℕ) → n ≤ i → i < 12 → Numbered r y i (firstMonth r y + i + 1)
+  pub leapNumber : ℕ
+  pub from-1 : 1 ≤ leapNumber
+  pub to-12 : leapNumber ≤ 12
+  pub leap : LeapAfter r leapNumber (firstMonth r y + leapNumber)
+  pub before : (i : ℕ) → i < leapNumber → Numbered r y i (firstMonth r y + i)
+  pub behind : (i : ℕ) → leapNumber ≤ i → i < 12 → Numbered r y i (firstMonth r y + i + 1)
 
 pub data TwelveOrThirteen (r : Rules) (y : ℕ) : Type 0 where
   twelve : Twelve r y → TwelveOrThirteen r y

@@ -66,7 +66,7 @@ fn zeroth_number(calendar: Calendar) -> u64
     }
 }
 
-// The number of the months that a mid-term names.
+// The number of the month that has a mid-term.
 pub fn term_number(calendar: Calendar, term: u32) -> u8
     ensures { λ r. ⌜ r ≡ termNumber (rulesOf calendar) term ⌝ }
 {

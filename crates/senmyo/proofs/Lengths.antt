@@ -17,8 +17,9 @@ use Rattle.sun.specs.Sun.{sunOf}
 use Rattle.moon.specs.Moon.{moonOf}
 use Rattle.sun.proofs.Bounds.{sun-bounds}
 use Rattle.moon.proofs.Rows.{moon-bounds}
-use Rattle.senmyo.specs.Means.{meanNewMoon, meanMonth, midTermDay, rainWater}
+use Rattle.senmyo.specs.Means.{meanNewMoon, midTermDay, rainWater}
 use Rattle.senmyo.specs.Phases.{corrections, newMoon, newMoonDay}
+use Rattle.senmyo.specs.Room.{meanMonth}
 use Rattle.senmyo.proofs.Worked.{dayAt}
 use Rattle.senmyo.proofs.PhaseLaws.{new-moon-exact, advance-is-floor}
 

@@ -1,9 +1,9 @@
 -- Means of Senmyo, counted from the start of the count (01, "Senmyo means"; 000, 004).
-use Prim.Native.Nat.{ℕ, _+_, _-_, _*_, _/_}
+use Prim.Native.Nat.{ℕ, _+_, _-_, _*_}
 use lib.IntN.{ℤ, pos, _-ℤ_}
 use Rattle.units.specs.declared.Fen.{Fen}
 use Rattle.units.specs.declared.Byo.{Byo}
-use Rattle.units.specs.Units.{fen, byo, fenToByo, byoToFen, dayFen, wholeDays}
+use Rattle.units.specs.Units.{fen, byo, fenToByo, byoToFen, wholeDays}
 use Rattle.sun.specs.Sun.{year}
 
 -- accumulated years of year Y: 7,070,138 + (Y − 822)
@@ -37,10 +37,6 @@ rainWater y = 12 * accumulatedYears y + 2
 -- mean new moon k
 abbrev pub meanNewMoon : ℕ → Fen
 meanNewMoon k = fen (248057 * k)
-
--- the last mean new moon by the start of a day
-abbrev pub meanMonth : ℕ → ℕ
-meanMonth day = dayFen * day / 248057
 
 -- the mean full moon after it: 124,028 1/2 fen
 abbrev pub meanFullMoon : ℕ → Byo

@@ -9,9 +9,9 @@ ghost use mathlib.Core.Path.{_≡_};
 ghost use Prim.Native.Nat.{_<_, _^_};
 ghost use lib.IntN.{pos, _+ℤ_, _*ℤ_};
 ghost use Rattle.numbers.specs.Spans.{Holds};
-ghost use Rattle.senmyo.specs.Means.{midTerm, midTermDay, rainWater, meanNewMoon, meanMonth, meanFullMoon};
+ghost use Rattle.senmyo.specs.Means.{midTerm, midTermDay, rainWater, meanNewMoon, meanFullMoon};
 ghost use Rattle.senmyo.specs.Phases.{corrections, newMoon, advancedDay, newMoonDay, fullMoon, fullMoonFen};
-ghost use Rattle.senmyo.specs.Room.{Movable};
+ghost use Rattle.senmyo.specs.Room.{meanMonth, Movable};
 
 // From a mid-term to the next, in byo: two terms of 127,835 fen 5 byo.
 const MID_TERM: u64 = 2 * (127835 * BYO_OF_FEN + 5);
