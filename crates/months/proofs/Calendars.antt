@@ -1,12 +1,15 @@
 -- Both calendars are steady, and their months and mid-terms are small enough for the words that count them.
+use mathlib.Core.Path.{_≡_}
 use Prim.Native.Nat.{ℕ, _+_, _*_, _<_, _≤_, _^_}
 use native.Mathlib.Omega.{arith}
-use Rattle.numbers.proofs.Spans.{growing}
+use Rattle.numbers.specs.Spans.{Holds}
+use Rattle.numbers.proofs.Spans.{growing, one-span}
 use Rattle.senmyo.proofs.Lengths as senmyo-lengths
 use Rattle.genka.proofs.GenkaLaws as genka-laws
 use Rattle.months.specs.declared.Calendar.{Calendar}
 use Rattle.months.specs.declared.Calendar.the-variants.{Senmyo, Genka}
 use Rattle.months.specs.Rules.{Rules, senmyo, genka, rulesOf}
+use Rattle.months.specs.Months.{Has}
 use Rattle.months.specs.Room.{meanMonth}
 use Rattle.months.proofs.Steady.{Steady}
 
@@ -74,3 +77,11 @@ pub guess : (c : Calendar) (d : ℕ) → Guess c d
 unfolding rulesOf meanMonth
 guess Senmyo d = record { opened = senmyo-lengths.opened-by-start d; soon = senmyo-lengths.second-opens-after d; small = omega arith }
 guess Genka d = record { opened = genka-laws.opened-by-start d; soon = genka-laws.second-opens-after d; small = omega arith }
+
+-- ---- what `month_of`, `month_with` and `mid_term_by` find is one thing
+
+pub one-month-of-day : (c : Calendar) (d k l : ℕ) → Has (rulesOf c) k d → Has (rulesOf c) l d → k ≡ l
+one-month-of-day c d k l h g = one-span (rulesOf c .start) (steady c .months-grow) k l d h g
+
+pub one-term-by-day : (c : Calendar) (d i j : ℕ) → Holds (rulesOf c .mid) i d → Holds (rulesOf c .mid) j d → i ≡ j
+one-term-by-day c d i j h g = one-span (rulesOf c .mid) (steady c .terms-grow) i j d h g
