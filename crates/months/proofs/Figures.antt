@@ -10,7 +10,7 @@ use mir.Facts.{and-yes}
 use Rattle.numbers.specs.Sign.{plus}
 use Rattle.numbers.specs.Spans.{Holds}
 use Rattle.numbers.proofs.Spans.{span-is}
-use Rattle.units.specs.Units.{fenToByo}
+use Rattle.units.specs.Units.{fenToByo, dayByo}
 use Rattle.senmyo.specs.Means.{accumulatedYears, solstice, midTerm, meanNewMoon}
 use Rattle.senmyo.specs.Phases.{newMoon}
 use Rattle.senmyo.proofs.Worked.{dayAt}
@@ -129,7 +129,7 @@ months-1522 : rows (row senmyo) (firstMonth senmyo 1522) (monthCount senmyo 1522
 unfolding rows row workedRow dayAt
 months-1522 =
     rw (first-1522, first-1523)
-    (rows-worked senmyo senmyo-steady (λ d. (67200 * (d + 1) - 1) / 2045370) (λ d. record { from = omega arith; to = omega arith }) 87454578 12)
+    (rows-worked senmyo senmyo-steady (λ d. (dayByo * (d + 1) - 1) / midTerm 1 .0) (λ d. record { from = omega arith; to = omega arith }) 87454578 12)
 
 days-1522 : nextFirstDay senmyo 1522 - firstDay senmyo 1522 ≡ 354
 unfolding dayAt
