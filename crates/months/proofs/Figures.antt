@@ -64,21 +64,21 @@ first-644 = known genka genka-steady 644 73023 tt
 first-698 : firstMonth genka 698 ≡ 73691
 first-698 = known genka genka-steady 698 73691 tt
 
--- ---- the first days of the covered years, and of the year after the last
+-- ---- the first day of the covered years, and the day after the last
 
-opening-822 : senmyo .dayNumber (firstDay senmyo 822) ≡ plus 2021320
+senmyo-opens : senmyo .dayNumber (firstDay senmyo (senmyo .firstYear)) ≡ plus 2021320
 unfolding dayAt
-opening-822 = rw first-822
+senmyo-opens = rw first-822
 
-opening-1685 : senmyo .dayNumber (firstDay senmyo 1685) ≡ plus 2336529
+senmyo-ends : senmyo .dayNumber (nextFirstDay senmyo (senmyo .lastYear)) ≡ plus 2336529
 unfolding dayAt
-opening-1685 = rw first-1685
+senmyo-ends = rw first-1685
 
-opening-445 : genka .dayNumber (firstDay genka 445) ≡ plus 1883618
-opening-445 = rw first-445
+genka-opens : genka .dayNumber (firstDay genka (genka .firstYear)) ≡ plus 1883618
+genka-opens = rw first-445
 
-opening-698 : genka .dayNumber (firstDay genka 698) ≡ plus 1976049
-opening-698 = rw first-698
+genka-ends : genka .dayNumber (nextFirstDay genka (genka .lastYear)) ≡ plus 1976049
+genka-ends = rw first-698
 
 -- ---- a month: name, length, day number of its first day
 

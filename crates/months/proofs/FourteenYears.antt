@@ -1,6 +1,6 @@
 -- Fourteen consecutive years have at most 174 months, in any calendar whose mid-terms of fourteen years take less than 174 months do.
 use mathlib.Core.Path.{_≡_}
-use Prim.Native.Nat.{ℕ, _+_, _-_, _*_, _<_, _≤_}
+use Prim.Native.Nat.{ℕ, _+_, _*_, _<_, _≤_}
 use native.Mathlib.Omega.{arith}
 use Rattle.numbers.proofs.Spans.{later, span-to}
 use Rattle.senmyo.proofs.Lengths as senmyo-lengths

@@ -12,6 +12,7 @@ use Rattle.months.specs.Rules.{Rules}
 use Rattle.months.specs.Months.{HasTerm, monthOf, firstMonth, firstDay, nextFirstDay, termNumber, lastTerm}
 use Rattle.months.specs.Year.{MonthDays, OneMonth, Numbered, LeapAfter, Twelve, Thirteen, TwelveOrThirteen, twelve, thirteen, Year}
 use Rattle.months.proofs.Steady.{Steady}
+use Rattle.months.proofs.FirstMonths.{opens}
 use Rattle.months.proofs.Terms.{has-not-leap, has-none-leap, one-term, last-term-is, number-of-last, number-of-leap}
 
 module _ (r : Rules) (s : Steady r) (y : ℕ) (length : (k : ℕ) → firstMonth r y ≤ k → k ≤ firstMonth r (y + 1) → MonthDays r k) where
@@ -80,11 +81,9 @@ module _ (r : Rules) (s : Steady r) (y : ℕ) (length : (k : ℕ) → firstMonth
           let months = together (r .start) 29 30 (firstMonth r y) 14 (λ k low high. length k low (omega (arith, many, high))) in
           let terms = together (r .mid) 30 31 (r .rainWater y) 12 (λ j low high. s .terms-apart j) in
           let rest = later (r .start) (s .months-grow) (firstMonth r y + 14) (firstMonth r (y + 1)) (omega (arith, many)) in
-          let opens : r .start (firstMonth r (y + 1)) ≤ r .mid (r .rainWater y + 12) = rw next at (has 12 .from) in
-          let e0 : r .rainWater y + 0 ≡ r .rainWater y = omega arith in
-          let holds : r .mid (r .rainWater y) < r .start (firstMonth r y + 1) = rw (e0, first) at (has 0 .to) in
+          let ends : r .start (firstMonth r (y + 1)) ≤ r .mid (r .rainWater y + 12) = rw next at (has 12 .from) in
           let short = length (firstMonth r y) (omega arith) (omega (arith, many)) .at-most in
-          absurd (omega (arith, months .at-least, terms .at-most, rest, opens, holds, short))
+          absurd (omega (arith, months .at-least, terms .at-most, rest, ends, opens r s y .to, short))
       by-order false e = ltb-false _ _ e
 
   numbered : (i : ℕ) → i < 12 → Numbered r y i (monthWith i)

@@ -34,7 +34,7 @@ together f a b k (suc n) t =
 
 module _ (f : ℕ → ℕ) (g : Growing f) where
   -- m spans take at least m
-  pub spans-take : (n m : ℕ) → f n + m ≤ f (n + m)
+  spans-take : (n m : ℕ) → f n + m ≤ f (n + m)
   spans-take n zero = let e : n + 0 ≡ n = omega arith in rw e (omega arith)
   spans-take n (suc m) =
       let e : n + suc m ≡ (n + m) + 1 = omega arith in
