@@ -1,6 +1,5 @@
 -- Genka, counted from its origin (01, "Months and leap" and the last sentence of "Units"; 001).
 use Prim.Native.Nat.{ℕ, _+_, _*_, _/_}
-use lib.IntN.{ℤ, pos, _-ℤ_}
 use Rattle.genka.specs.declared.Part.{Part}
 
 abbrev pub part : ℕ → Part
@@ -30,6 +29,6 @@ yearsSinceOrigin y = y + 5260
 abbrev pub rainWater : ℕ → ℕ
 rainWater y = 12 * yearsSinceOrigin y
 
--- the day number of a count of whole days
-abbrev pub dayNumber : ℕ → ℤ
-dayNumber days = pos days -ℤ pos 200089
+-- day number = whole days − 200,089: the whole days of day number 0
+abbrev pub dayZero : ℕ
+dayZero = 200089

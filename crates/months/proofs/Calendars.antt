@@ -45,6 +45,7 @@ pub record Sizes (r : Rules) : Type 0 where
   pub mid-size : (j : ℕ) → r .mid j ≤ 31 * j
   pub zeroth-from : 1 ≤ r .zerothNumber
   pub zeroth-to : r .zerothNumber ≤ 12
+  pub year-size : r .lastYear < 2 ^ 16
   pub rain-water-size : (y : ℕ) → y < 2 ^ 16 → r .rainWater y + 2 ^ 8 < 2 ^ 27
 
 pub sizes : (c : Calendar) → Sizes (rulesOf c)
@@ -55,6 +56,7 @@ sizes Senmyo =
       mid-size = λ j. omega arith;
       zeroth-from = omega arith;
       zeroth-to = omega arith;
+      year-size = omega arith;
       rain-water-size = λ y h. omega (arith, h);
     }
 sizes Genka =
@@ -63,6 +65,7 @@ sizes Genka =
       mid-size = λ j. omega arith;
       zeroth-from = omega arith;
       zeroth-to = omega arith;
+      year-size = omega arith;
       rain-water-size = λ y h. omega (arith, h);
     }
 

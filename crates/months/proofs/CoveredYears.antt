@@ -1,16 +1,20 @@
 -- The third demand, for every covered year of both calendars.
-use Prim.Native.Nat.{ℕ, _+_, _<_, _≤_}
+use mathlib.Core.Path.{_≡_}
+use Prim.Native.Nat.{ℕ, _+_, _-_, _<_, _≤_, _^_}
 use native.Mathlib.Omega.{arith}
 use Rattle.numbers.proofs.Spans.{later, span-from, span-before}
 use Rattle.senmyo.proofs.Lengths as senmyo-lengths
 use Rattle.genka.proofs.GenkaLaws as genka-laws
 use Rattle.months.specs.declared.Calendar.{Calendar}
 use Rattle.months.specs.declared.Calendar.the-variants.{Senmyo, Genka}
-use Rattle.months.specs.Rules.{senmyo, genka, rulesOf}
-use Rattle.months.specs.Months.{firstMonth}
-use Rattle.months.specs.Year.{Year}
+use Rattle.months.specs.Rules.{Rules, senmyo, genka, rulesOf}
+use Rattle.months.specs.Months.{monthOf, firstMonth, firstDay, nextFirstDay, yearWith}
+use Rattle.months.specs.Year.{MonthDays, OfYear, Year}
+use Rattle.months.specs.Room.{Covering}
+use Rattle.months.proofs.FirstMonths.{in-order, year-holds, year-from, year-to}
 use Rattle.months.proofs.Years.{year-of}
-use Rattle.months.proofs.Calendars.{senmyo-steady, genka-steady}
+use Rattle.months.proofs.Calendars.{senmyo-steady, genka-steady, steady}
+use Rattle.months.proofs.Figures.{first-1685, first-698, senmyo-opens, senmyo-ends, genka-opens, genka-ends}
 
 -- the tested months are all that the covered years need
 tested-from : (y : ℕ) → 822 ≤ y → senmyo-lengths.firstTested ≤ firstMonth senmyo y
@@ -38,3 +42,56 @@ pub covered-year : (c : Calendar) (y : ℕ) → rulesOf c .firstYear ≤ y → y
 unfolding rulesOf
 covered-year Senmyo y from to = senmyo-year y from to
 covered-year Genka y from to = genka-year y from to
+
+-- ---- where the covered years begin and end, in round numbers
+
+pub record Edges (r : Rules) : Type 0 where
+  pub first-day : r .dayZero < firstDay r (r .firstYear)
+  pub last-day : nextFirstDay r (r .lastYear) < r .dayZero + 2 ^ 22
+  pub last-month : firstMonth r (r .lastYear + 1) < 2 ^ 27 - 2
+  pub day-zero : r .dayZero + 2 ^ 22 < 2 ^ 32
+
+pub edges : (c : Calendar) → Edges (rulesOf c)
+unfolding rulesOf
+edges Senmyo = record { first-day = omega (arith, senmyo-opens); last-day = omega (arith, senmyo-ends); last-month = omega (arith, first-1685); day-zero = omega arith }
+edges Genka = record { first-day = omega (arith, genka-opens); last-day = omega (arith, genka-ends); last-month = omega (arith, first-698); day-zero = omega arith }
+
+-- ---- a month of the covered years
+
+module _ (c : Calendar) (k : ℕ) (h : Covering (rulesOf c) k) where
+  -- its year is covered
+  pub its-year : Year (rulesOf c) (yearWith (rulesOf c) k)
+  its-year = covered-year c (yearWith (rulesOf c) k) (year-from (rulesOf c) (steady c) k h) (year-to (rulesOf c) (steady c) k h)
+
+  pub its-days : MonthDays (rulesOf c) k
+  its-days = let held = year-holds (rulesOf c) (steady c) k h in its-year .length k (record { from = held .from; to = held .to })
+
+  -- its days are covered
+  pub starts-covered : firstDay (rulesOf c) (rulesOf c .firstYear) ≤ rulesOf c .start k
+  starts-covered = omega (arith, later (rulesOf c .start) (steady c .months-grow) (firstMonth (rulesOf c) (rulesOf c .firstYear)) k (h .from))
+
+  pub ends-covered : rulesOf c .start (k + 1) ≤ nextFirstDay (rulesOf c) (rulesOf c .lastYear)
+  ends-covered = omega (arith, later (rulesOf c .start) (steady c .months-grow) (k + 1) (firstMonth (rulesOf c) (rulesOf c .lastYear + 1)) (omega (arith, h .to)))
+
+-- the covered years' months lie between the first year's and the last's
+pub after-first : (c : Calendar) (y : ℕ) → rulesOf c .firstYear ≤ y → firstMonth (rulesOf c) (rulesOf c .firstYear) ≤ firstMonth (rulesOf c) y
+after-first c y from =
+    let on : rulesOf c .firstYear + (y - rulesOf c .firstYear) ≡ y = omega (arith, from) in
+    rw on at (in-order (rulesOf c) (steady c) (rulesOf c .firstYear) (y - rulesOf c .firstYear))
+
+pub before-last : (c : Calendar) (y : ℕ) → y ≤ rulesOf c .lastYear → firstMonth (rulesOf c) (y + 1) ≤ firstMonth (rulesOf c) (rulesOf c .lastYear + 1)
+before-last c y to =
+    let on : (y + 1) + (rulesOf c .lastYear - y) ≡ rulesOf c .lastYear + 1 = omega (arith, to) in
+    rw on at (in-order (rulesOf c) (steady c) (y + 1) (rulesOf c .lastYear - y))
+
+-- a month of a covered year
+pub covering : (c : Calendar) (y k : ℕ) → rulesOf c .firstYear ≤ y → y ≤ rulesOf c .lastYear → OfYear (rulesOf c) y k → Covering (rulesOf c) k
+covering c y k from to h = record { from = omega (arith, h .from, after-first c y from); to = omega (arith, h .to, before-last c y to) }
+
+-- the month that has a covered day
+pub covering-day : (c : Calendar) (d : ℕ) → firstDay (rulesOf c) (rulesOf c .firstYear) ≤ d → d < nextFirstDay (rulesOf c) (rulesOf c .lastYear) → Covering (rulesOf c) (monthOf (rulesOf c) d)
+covering-day c d from to =
+    record {
+      from = span-from (rulesOf c .start) (steady c .months-grow) (firstMonth (rulesOf c) (rulesOf c .firstYear)) d from;
+      to = span-before (rulesOf c .start) (steady c .months-grow) (firstMonth (rulesOf c) (rulesOf c .lastYear + 1)) d to;
+    }

@@ -4,5 +4,5 @@ pub mod FirstMonths
 pub mod Years
 pub mod Calendars
 pub mod FourteenYears
-pub mod CoveredYears
 pub mod Figures
+pub mod CoveredYears

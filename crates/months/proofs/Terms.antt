@@ -12,12 +12,12 @@ use Rattle.months.specs.Months.{HasTerm, termNumber, lastTerm, isLeap, n
 use Rattle.months.proofs.Steady.{Steady}
 
 module _ (r : Rules) (s : Steady r) (k : ℕ) where
-  last-term : Holds (r .mid) (lastTerm r k) (r .start (k + 1) - 1)
+  pub last-term : Holds (r .mid) (lastTerm r k) (r .start (k + 1) - 1)
   unfolding lastTerm
   last-term = span-holds (r .mid) (s .terms-grow) _
 
   -- .. is the one that has fallen by then while the next has not
-  last-term-told : (j : ℕ) → Holds (r .mid) j (r .start (k + 1) - 1) → lastTerm r k ≡ j
+  pub last-term-told : (j : ℕ) → Holds (r .mid) j (r .start (k + 1) - 1) → lastTerm r k ≡ j
   unfolding lastTerm
   last-term-told j h = span-is (r .mid) (s .terms-grow) j _ h
 

@@ -12,7 +12,7 @@ use Rattle.months.specs.Rules.{Rules}
 use Rattle.months.specs.Months.{HasTerm, monthOf, firstMonth, firstDay, nextFirstDay, termNumber, lastTerm}
 use Rattle.months.specs.Year.{MonthDays, OneMonth, Numbered, LeapAfter, Twelve, Thirteen, TwelveOrThirteen, twelve, thirteen, Year}
 use Rattle.months.proofs.Steady.{Steady}
-use Rattle.months.proofs.FirstMonths.{opens}
+use Rattle.months.proofs.FirstMonths.{opens, first-with, next-with}
 use Rattle.months.proofs.Terms.{has-not-leap, has-none-leap, one-term, last-term-is, number-of-last, number-of-leap}
 
 module _ (r : Rules) (s : Steady r) (y : ℕ) (length : (k : ℕ) → firstMonth r y ≤ k → k ≤ firstMonth r (y + 1) → MonthDays r k) where
@@ -25,12 +25,12 @@ module _ (r : Rules) (s : Steady r) (y : ℕ) (length : (k : ℕ) → firstMonth
   has i = span-holds (r .start) (s .months-grow) _
 
   first : monthWith 0 ≡ firstMonth r y
-  unfolding monthWith firstMonth
-  first = let e : r .rainWater y + 0 ≡ r .rainWater y = omega arith in rw e
+  unfolding monthWith
+  first = first-with r s y
 
   next : monthWith 12 ≡ firstMonth r (y + 1)
-  unfolding monthWith firstMonth
-  next = rw (s .twelve-terms y)
+  unfolding monthWith
+  next = next-with r s y
 
   ordered : (i n : ℕ) → monthWith i ≤ monthWith (i + n)
   unfolding monthWith

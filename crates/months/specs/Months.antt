@@ -2,9 +2,15 @@
 use mathlib.Core.Bool.{Bool, true, false}
 use Prim.Native.Nat.{ℕ, _+_, _-_, _%_}
 use lib.Dec.{ltb}
-use Rattle.numbers.specs.Spans.{Holds, spanOf}
+use Rattle.numbers.specs.Spans.{Holds, lastBegun, spanOf}
+use Rattle.months.specs.declared.YearRange.{YearRange}
+use Rattle.months.specs.declared.Span.{Span}
 use Rattle.months.specs.declared.Name.{Name}
 use Rattle.months.specs.Rules.{Rules}
+
+-- the first covered year and the last
+abbrev pub coveredYears : Rules → YearRange
+coveredYears r = record { first = r .firstYear; last = r .lastYear }
 
 -- a month runs from its new moon's day to the eve of the next: month k has day d
 abbrev pub Has : Rules → ℕ → ℕ → Type 0
@@ -18,9 +24,17 @@ HasTerm r k j = Has r k (r .mid j)
 abbrev pub monthOf : Rules → ℕ → ℕ
 monthOf r d = spanOf (r .start) d
 
+-- .. and that which has a mid-term
+abbrev pub monthWith : Rules → ℕ → ℕ
+monthWith r j = monthOf r (r .mid j)
+
+-- a month with its first day and the first day of the next
+abbrev pub spanned : Rules → ℕ → Span
+spanned r k = record { month = k; start = r .start k; next = r .start (k + 1) }
+
 -- month 1 of year y has that year's Rain Water
 unfoldable pub firstMonth : Rules → ℕ → ℕ
-firstMonth r y = monthOf r (r .mid (r .rainWater y))
+firstMonth r y = monthWith r (r .rainWater y)
 
 -- the year ends before the next year's month 1
 abbrev pub monthCount : Rules → ℕ → ℕ
@@ -32,6 +46,10 @@ firstDay r y = r .start (firstMonth r y)
 
 abbrev pub nextFirstDay : Rules → ℕ → ℕ
 nextFirstDay r y = firstDay r (y + 1)
+
+-- the year of month k: of the years up to the last covered one, the last whose month 1 is not after it
+unfoldable pub yearWith : Rules → ℕ → ℕ
+yearWith r k = lastBegun (firstMonth r) k (r .lastYear)
 
 -- the number, 1 to 12, of the month whose mid-term is j
 abbrev pub termNumber : Rules → ℕ → ℕ

@@ -1,7 +1,6 @@
 -- The two calendars as one thing: what "Months and leap" of 01 asks of a calendar, and what each of them gives. Days are whole days
 -- from the calendar's own origin.
-use Prim.Native.Nat.{ℕ}
-use lib.IntN.{ℤ}
+use Prim.Native.Nat.{ℕ, _-_}
 use Rattle.senmyo.specs.Means as senmyo-means
 use Rattle.senmyo.specs.Phases as senmyo-phases
 use Rattle.genka.specs.Genka as genka-means
@@ -20,8 +19,8 @@ pub record Rules : Type 0 where
   pub zerothNumber : ℕ
   -- the mid-term that is the Rain Water of year y
   pub rainWater : ℕ → ℕ
-  -- the day number of a day
-  pub dayNumber : ℕ → ℤ
+  -- the whole days of day number 0
+  pub dayZero : ℕ
 
 -- mid-term 0 is a solstice, of month 11
 abbrev pub senmyo : Rules
@@ -33,7 +32,7 @@ senmyo =
       mid = λ j. senmyo-means.midTermDay j;
       zerothNumber = 11;
       rainWater = λ y. senmyo-means.rainWater y;
-      dayNumber = λ d. senmyo-means.dayNumber d;
+      dayZero = senmyo-means.dayZero;
     }
 
 -- mid-term 0 is a Rain Water, of month 1
@@ -46,8 +45,12 @@ genka =
       mid = λ j. genka-means.midTermDay j;
       zerothNumber = 1;
       rainWater = λ y. genka-means.rainWater y;
-      dayNumber = λ d. genka-means.dayNumber d;
+      dayZero = genka-means.dayZero;
     }
+
+-- the day number of a day
+abbrev pub dayNumber : Rules → ℕ → ℕ
+dayNumber r d = d - r .dayZero
 
 unfoldable pub rulesOf : Calendar → Rules
 rulesOf Senmyo = senmyo

@@ -1,13 +1,26 @@
 ghost use mathlib.Core.Path.{_≡_};
-ghost use Prim.Native.Nat.{_+_, _<_, _^_};
+ghost use Prim.Native.Nat.{_+_};
 ghost use Rattle.numbers.specs.Spans.{Holds};
 ghost use Rattle.months.specs.Rules.{rulesOf};
-ghost use Rattle.months.specs.Months.{Has, HasTerm, firstMonth, monthCount, firstDay, nextFirstDay, termNumber, nameOf};
-ghost use Rattle.months.specs.Room.{meanMonth};
+ghost use Rattle.months.specs.Months.{coveredYears, spanned, monthOf, monthWith, termNumber, lastTerm, nameOf, yearWith};
+ghost use Rattle.months.specs.Room.{meanMonth, Fitting, Covering};
 
 pub enum Calendar {
     Senmyo,
     Genka,
+}
+
+// Years from the first to the last.
+pub struct YearRange {
+    pub first: u16,
+    pub last: u16,
+}
+
+// A month by the number of its new moon, with the day on which it starts and the day on which the next does.
+pub struct Span {
+    pub month: u32,
+    pub start: u64,
+    pub next: u64,
 }
 
 // A month's number, 1 to 12, and whether it is leap.
@@ -16,8 +29,34 @@ pub struct Name {
     pub leap: bool,
 }
 
+// The covered years, from the first to the last.
+pub fn covered_years(calendar: Calendar) -> YearRange
+    ensures { λ r. ⌜ r ≡ coveredYears (rulesOf calendar) ⌝ }
+{
+    match calendar {
+        Calendar::Senmyo => YearRange {
+            first: 822,
+            last: 1684,
+        },
+        Calendar::Genka => YearRange {
+            first: 445,
+            last: 697,
+        },
+    }
+}
+
+// The whole days, from the calendar's origin, of day number 0.
+pub fn day_zero(calendar: Calendar) -> u64
+    ensures { λ r. ⌜ r ≡ rulesOf calendar .dayZero ⌝ }
+{
+    match calendar {
+        Calendar::Senmyo => 2_580_308_749,
+        Calendar::Genka => 200_089,
+    }
+}
+
 // The day on which a month starts, in whole days from the calendar's origin.
-pub fn start(calendar: Calendar, month: u32) -> u64
+fn start(calendar: Calendar, month: u32) -> u64
     ensures { λ r. ⌜ r ≡ rulesOf calendar .start month ⌝ }
 {
     match calendar {
@@ -27,7 +66,7 @@ pub fn start(calendar: Calendar, month: u32) -> u64
 }
 
 // The day of a mid-term.
-pub fn mid_day(calendar: Calendar, term: u32) -> u64
+fn mid_day(calendar: Calendar, term: u32) -> u64
     ensures { λ r. ⌜ r ≡ rulesOf calendar .mid term ⌝ }
 {
     match calendar {
@@ -47,7 +86,7 @@ fn mid_term_by(calendar: Calendar, day: u32) -> u32
 }
 
 // The mid-term that is the Rain Water of a year.
-pub fn rain_water(calendar: Calendar, year: u16) -> u32
+fn rain_water(calendar: Calendar, year: u16) -> u32
     ensures { λ r. ⌜ r ≡ rulesOf calendar .rainWater year ⌝ }
 {
     match calendar {
@@ -67,7 +106,7 @@ fn zeroth_number(calendar: Calendar) -> u64
 }
 
 // The number of the month that has a mid-term.
-pub fn term_number(calendar: Calendar, term: u32) -> u8
+fn term_number(calendar: Calendar, term: u32) -> u8
     ensures { λ r. ⌜ r ≡ termNumber (rulesOf calendar) term ⌝ }
 {
     ((term as u64 + zeroth_number(calendar) - 1) % 12 + 1) as u8
@@ -84,67 +123,72 @@ fn mean_month(calendar: Calendar, day: u32) -> u32
 }
 
 // The month that has a day. It opens with the last mean new moon before the day, or with the next: one step is enough.
-pub fn month_of(calendar: Calendar, day: u32) -> u32
-    ensures { λ r. ⌜ Has (rulesOf calendar) r day ⌝ }
+pub fn month_of(calendar: Calendar, day: u32) -> Span
+    ensures { λ r. ⌜ r ≡ spanned (rulesOf calendar) (monthOf (rulesOf calendar) day) ⌝ }
 {
     let guess = mean_month(calendar, day);
-    if start(calendar, guess + 1) <= day as u64 {
-        guess + 1
-    } else {
-        guess
+    let next = start(calendar, guess + 1);
+    if next <= day as u64 {
+        return Span {
+            month: guess + 1,
+            start: next,
+            next: start(calendar, guess + 2),
+        };
+    }
+    Span {
+        month: guess,
+        start: start(calendar, guess),
+        next,
     }
 }
 
 // The month that has a mid-term of a year, the one that comes `after` the Rain Water by so many.
-pub fn month_with(calendar: Calendar, year: u16, after: u8) -> u32
-    ensures { λ r. ⌜ HasTerm (rulesOf calendar) r (rulesOf calendar .rainWater year + after) ⌝ }
+pub fn month_with(calendar: Calendar, year: u16, after: u8) -> Span
+    ensures { λ r. ⌜ r ≡ spanned (rulesOf calendar) (monthWith (rulesOf calendar) (rulesOf calendar .rainWater year + after)) ⌝ }
 {
     let term = rain_water(calendar, year) + (after as u32);
     month_of(calendar, mid_day(calendar, term) as u32)
 }
 
-// A month's name: with a mid-term, its number; without one it is leap, and takes the number before it.
-pub fn name_of(calendar: Calendar, month: u32) -> Name
-    requires { ⌜ month < 2 ^ 27 ⌝ }
-    ensures { λ r. ⌜ r ≡ nameOf (rulesOf calendar) month ⌝ }
+// The month after a month.
+pub fn month_after(calendar: Calendar, span: Span) -> Span
+    requires { ⌜ Fitting (rulesOf calendar) span ⌝ }
+    ensures { λ r. ⌜ r ≡ spanned (rulesOf calendar) (span .month + 1) ⌝ }
 {
-    let last_day = start(calendar, month + 1) - 1;
-    let term = mid_term_by(calendar, last_day as u32);
-    Name {
-        number: term_number(calendar, term),
-        leap: mid_day(calendar, term) < start(calendar, month),
+    Span {
+        month: span.month + 1,
+        start: span.next,
+        next: start(calendar, span.month + 2),
     }
 }
 
-// Month 1 of a year.
-pub fn first_month(calendar: Calendar, year: u16) -> u32
-    ensures { λ r. ⌜ r ≡ firstMonth (rulesOf calendar) year ⌝ }
+// The last mid-term by the last day of a month.
+fn last_term(calendar: Calendar, span: Span) -> u32
+    requires { ⌜ Fitting (rulesOf calendar) span ⌝ }
+    ensures { λ r. ⌜ r ≡ lastTerm (rulesOf calendar) (span .month) ⌝ }
 {
-    month_with(calendar, year, 0)
+    mid_term_by(calendar, (span.next - 1) as u32)
 }
 
-// Month 1 of the next year, whose Rain Water is the twelfth mid-term on.
-pub fn next_first_month(calendar: Calendar, year: u16) -> u32
-    ensures { λ r. ⌜ r ≡ firstMonth (rulesOf calendar) (year + 1) ⌝ }
+// A month's name: with a mid-term, its number; without one it is leap, and takes the number before it.
+pub fn name_of(calendar: Calendar, span: Span) -> Name
+    requires { ⌜ Fitting (rulesOf calendar) span ⌝ }
+    ensures { λ r. ⌜ r ≡ nameOf (rulesOf calendar) (span .month) ⌝ }
 {
-    month_with(calendar, year, 12)
+    let term = last_term(calendar, span);
+    Name {
+        number: term_number(calendar, term),
+        leap: mid_day(calendar, term) < span.start,
+    }
 }
 
-pub fn month_count(calendar: Calendar, year: u16) -> u32
-    ensures { λ r. ⌜ r ≡ monthCount (rulesOf calendar) year ⌝ }
+// The year of a month: each has twelve mid-terms, from its Rain Water on.
+pub fn year_with(calendar: Calendar, span: Span) -> u16
+    requires { ⌜ Fitting (rulesOf calendar) span ⌝ }
+    requires { ⌜ Covering (rulesOf calendar) (span .month) ⌝ }
+    ensures { λ r. ⌜ r ≡ yearWith (rulesOf calendar) (span .month) ⌝ }
 {
-    next_first_month(calendar, year) - first_month(calendar, year)
-}
-
-pub fn first_day(calendar: Calendar, year: u16) -> u64
-    ensures { λ r. ⌜ r ≡ firstDay (rulesOf calendar) year ⌝ }
-{
-    start(calendar, first_month(calendar, year))
-}
-
-// The day on which the next year starts.
-pub fn next_first_day(calendar: Calendar, year: u16) -> u64
-    ensures { λ r. ⌜ r ≡ nextFirstDay (rulesOf calendar) year ⌝ }
-{
-    start(calendar, next_first_month(calendar, year))
+    let first = covered_years(calendar).first;
+    let terms = last_term(calendar, span) - rain_water(calendar, first);
+    first + (terms / 12) as u16
 }

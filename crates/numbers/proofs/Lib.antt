@@ -5,3 +5,4 @@ pub mod Size
 pub mod Rounding
 pub mod Tests
 pub mod Spans
+pub mod Answers

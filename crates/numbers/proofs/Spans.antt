@@ -32,6 +32,26 @@ together f a b k (suc n) t =
     let last = t (k + n) (omega arith) (omega arith) in
     record { at-least = rw (e, mul-suc) (omega (arith, before, last)); at-most = rw (e, mul-suc) (omega (arith, before, last)) }
 
+-- lastBegun finds the span that holds d among the spans 0 to n, if it is there
+pub found : (f : ℕ → ℕ) (d n : ℕ) → f 0 ≤ d → d < f (n + 1) → Holds f (lastBegun f d n) d
+unfolding lastBegun
+found f d zero low high = record { from = low; to = high }
+found f d (suc n) low high = by-begin (leb (f (suc n)) d) refl (λ not-begun. found f d n low (rw add-one not-begun))
+  where
+    by-begin : (b : Bool) → leb (f (suc n)) d ≡ b → (d < f (suc n) → Holds f (lastBegun f d n) d) → Holds f (lastBegun f d (suc n)) d
+    by-begin true e earlier = rw (e, lastBegun) (record { from = leb-true _ _ e; to = high })
+    by-begin false e earlier = rw (e, lastBegun) (earlier (leb-false _ _ e))
+
+-- it looks no further than span n
+pub begun-to : (f : ℕ → ℕ) (d n : ℕ) → lastBegun f d n ≤ n
+unfolding lastBegun
+begun-to f d zero = omega arith
+begun-to f d (suc n) = by-begin (leb (f (suc n)) d) refl (begun-to f d n)
+  where
+    by-begin : (b : Bool) → leb (f (suc n)) d ≡ b → lastBegun f d n ≤ n → lastBegun f d (suc n) ≤ suc n
+    by-begin true e h = rw (e, lastBegun) (omega arith)
+    by-begin false e h = rw (e, lastBegun) (omega (arith, h))
+
 module _ (f : ℕ → ℕ) (g : Growing f) where
   -- m spans take at least m
   spans-take : (n m : ℕ) → f n + m ≤ f (n + m)
@@ -57,20 +77,10 @@ module _ (f : ℕ → ℕ) (g : Growing f) where
   pub one-span : (n m d : ℕ) → Holds f n d → Holds f m d → n ≡ m
   one-span n m d h k = omega (arith, not-after n m d (h .from) (k .to), not-after m n d (k .from) (h .to))
 
-  -- lastBegun finds it among the spans 0 to n, if it is there
-  found : (d n : ℕ) → d < f (n + 1) → Holds f (lastBegun f d n) d
-  unfolding lastBegun
-  found d zero h = record { from = omega (arith, g .zeroth); to = h }
-  found d (suc n) h = by-begin (leb (f (suc n)) d) refl (λ not-begun. found d n (rw add-one not-begun))
-    where
-      by-begin : (b : Bool) → leb (f (suc n)) d ≡ b → (d < f (suc n) → Holds f (lastBegun f d n) d) → Holds f (lastBegun f d (suc n)) d
-      by-begin true e earlier = rw (e, lastBegun) (record { from = leb-true _ _ e; to = h })
-      by-begin false e earlier = rw (e, lastBegun) (earlier (leb-false _ _ e))
-
   -- a span holds d ..
   pub span-holds : (d : ℕ) → Holds f (spanOf f d) d
   unfolding spanOf
-  span-holds d = found d d (omega (arith, later 0 (d + 1) (omega arith)))
+  span-holds d = found f d d (omega (arith, g .zeroth)) (omega (arith, later 0 (d + 1) (omega arith)))
 
   -- .. and no other
   pub span-is : (n d : ℕ) → Holds f n d → spanOf f d ≡ n

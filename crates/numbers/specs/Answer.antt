@@ -10,3 +10,8 @@ pub data Answer (A : Type 0) : Type 0 where
 abbrev pub need : {A : Type 0} → Bool → ℕ → Answer A → Answer A
 need true refusal answer = answer
 need false refusal answer = refused refusal
+
+-- a step that follows an answer: a refusal goes on as it came
+abbrev pub then : {A B : Type 0} → Answer A → (A → Answer B) → Answer B
+then (given a) step = step a
+then (refused refusal) step = refused refusal

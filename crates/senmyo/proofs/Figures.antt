@@ -4,9 +4,9 @@ use mathlib.Core.Bool.{Bool, _&&_, true}
 use mathlib.Core.List.{List, [], _∷_, map}
 use Prim.Native.Nat.{ℕ, _+_, _-_, _%_}
 use lib.Dec.{leb, ltb}
-use Rattle.numbers.specs.Sign.{plus, minus, whole}
+use Rattle.numbers.specs.Sign.{plus, minus}
 use Rattle.units.specs.Units.{fen, wholeDays, fenOfDay}
-use Rattle.senmyo.specs.Means.{solstice, dayNumber, midTermDay, rainWater, meanNewMoon}
+use Rattle.senmyo.specs.Means.{solstice, dayZero, midTermDay, rainWater, meanNewMoon}
 use Rattle.senmyo.specs.Phases.{corrections, newMoon, newMoonDay, fullMoon, fullMoonFen}
 use Rattle.senmyo.proofs.Worked.{sunAt, moonAt, dayAt}
 
@@ -40,7 +40,7 @@ solstice-1522 : fenOfDay (solstice 1522) ≡ fen 90
 solstice-1522 = refl
 
 -- .. of cycle number 0
-cycle-1522 : (whole (dayNumber (wholeDays (solstice 1522))) + 49) % 60 ≡ 0
+cycle-1522 : (wholeDays (solstice 1522) - dayZero + 49) % 60 ≡ 0
 cycle-1522 = refl
 
 -- the mean new moon of month 11, two before that of month 1, 121,258 fen before the solstice

@@ -1,6 +1,5 @@
 -- Means of Senmyo, counted from the start of the count (01, "Senmyo means"; 000, 004).
 use Prim.Native.Nat.{ℕ, _+_, _-_, _*_}
-use lib.IntN.{ℤ, pos, _-ℤ_}
 use Rattle.units.specs.declared.Fen.{Fen}
 use Rattle.units.specs.declared.Byo.{Byo}
 use Rattle.units.specs.Units.{fen, byo, fenToByo, byoToFen, wholeDays}
@@ -14,9 +13,9 @@ accumulatedYears y = 7070138 + y - 822
 abbrev pub solstice : ℕ → Fen
 solstice y = fen (year .0 * accumulatedYears y)
 
--- the day number of a count of whole days
-abbrev pub dayNumber : ℕ → ℤ
-dayNumber days = pos days -ℤ pos 2580308749
+-- day number = whole days − 2,580,308,749: the whole days of day number 0
+abbrev pub dayZero : ℕ
+dayZero = 2580308749
 
 -- from a term to the next: 127,835 fen 5 byo
 abbrev pub termSpacing : Byo

@@ -1,0 +1,101 @@
+-- What a year's numbers say of its months: their lengths add up to its days, its count is the number of months listed, and its leap number is that of
+-- the month that has no mid-term.
+use mathlib.Core.Path.{_≡_, refl, sym, _∙_}
+use mathlib.Core.Bool.{true, false}
+use mathlib.Core.List.{List, [], _∷_}
+use Prim.Native.Nat.{ℕ, zero, suc, _+_, _-_, _<_, _≤_}
+use native.Mathlib.Omega.{arith}
+use borrow.Author.Tests.{lt-ltb}
+use lib.Dec.{ltb}
+use Rattle.months.specs.declared.Calendar.{Calendar}
+use Rattle.months.specs.Rules.{Rules, rulesOf}
+use Rattle.months.specs.Months.{firstMonth, monthCount, isLeap, numberOf}
+use Rattle.months.specs.Year.{Twelve, Thirteen}
+use Rattle.months.proofs.Steady.{Steady}
+use Rattle.months.proofs.Terms.{number-of-last}
+use Rattle.months.proofs.Calendars.{steady}
+use Rattle.calendar.specs.declared.Month.{Month}
+use Rattle.calendar.specs.Years.{listed, places, leapNumber, yearIn}
+use Rattle.calendar.specs.Room.{CoveredYear}
+use Rattle.calendar.proofs.Covered.{year-room}
+
+-- the days of all places together
+unfoldable pub daysOf : List Month → ℕ
+daysOf [] = 0
+daysOf (m ∷ ms) = m .length + daysOf ms
+
+-- how many places are used: no month has number 0
+unfoldable pub usedOf : List Month → ℕ
+usedOf [] = 0
+usedOf (m ∷ ms) = elim (ltb 0 (m .number)) [ true ↦ 1 + usedOf ms | false ↦ usedOf ms ]
+
+module _ (r : Rules) (s : Steady r) where
+  days-add-up : (k count n : ℕ) → count ≤ n → r .start k + daysOf (places (listed r) k count n) ≡ r .start (k + count)
+  unfolding places daysOf
+  days-add-up k zero zero h = let e : k + 0 ≡ k = omega arith in rw e (omega arith)
+  days-add-up k zero (suc n) h = omega (arith, days-add-up k zero n (omega arith))
+  days-add-up k (suc count) zero h = absurd (omega (arith, h))
+  days-add-up k (suc count) (suc n) h =
+      let e : k + suc count ≡ k + 1 + count = omega arith in
+      rw e (omega (arith, days-add-up (k + 1) count n (omega (arith, h)), s .months-grow .grows k))
+
+  -- a month's number is not 0
+  numbered : (k : ℕ) → 0 < numberOf r k
+  numbered k = rw (number-of-last r s k) (omega arith)
+
+  places-used : (k count n : ℕ) → count ≤ n → usedOf (places (listed r) k count n) ≡ count
+  unfolding places usedOf
+  places-used k zero zero h = refl
+  places-used k zero (suc n) h = places-used k zero n (omega arith)
+  places-used k (suc count) zero h = absurd (omega (arith, h))
+  places-used k (suc count) (suc n) h = rw (lt-ltb 0 (numberOf r k) (numbered k), usedOf) (omega (arith, places-used (k + 1) count n (omega (arith, h))))
+
+module _ (c : Calendar) (y : ℕ) (covered : CoveredYear (rulesOf c) y) where
+  -- the months' lengths add up to the year's days
+  pub days-are-lengths : yearIn (rulesOf c) y .days ≡ daysOf (yearIn (rulesOf c) y .months)
+  unfolding yearIn
+  days-are-lengths =
+      let r = rulesOf c in
+      let room = year-room c y covered in
+      let on : firstMonth r y + monthCount r y ≡ firstMonth r (y + 1) = omega (arith, room .at-least) in
+      let sum = rw on at (days-add-up r (steady c) (firstMonth r y) (monthCount r y) 13 (omega (arith, room .at-most))) in
+      omega (arith, sum)
+
+  -- the count is the number of months listed
+  pub count-is-used : yearIn (rulesOf c) y .count ≡ usedOf (yearIn (rulesOf c) y .months)
+  unfolding yearIn
+  count-is-used = sym (places-used (rulesOf c) (steady c) (firstMonth (rulesOf c) y) (monthCount (rulesOf c) y) 13 (omega (arith, year-room c y covered .at-most)))
+
+-- ---- the leap number
+
+module _ (r : Rules) (k : ℕ) where
+  none-leap : (n : ℕ) → ((i : ℕ) → i < n → isLeap r (k + i) ≡ false) → leapNumber (listed r) k n ≡ 0
+  unfolding leapNumber
+  none-leap zero h = refl
+  none-leap (suc n) h = rw (h n (omega arith), leapNumber) (none-leap n (λ i l. h i (omega (arith, l))))
+
+  one-leap : (l n : ℕ) → isLeap r (k + l) ≡ true → ((i : ℕ) → l < i → i < l + 1 + n → isLeap r (k + i) ≡ false) → leapNumber (listed r) k (l + 1 + n) ≡ numberOf r (k + l)
+  unfolding leapNumber
+  one-leap l zero e h = let last : l + 1 + 0 ≡ suc l = omega arith in rw (last, e, leapNumber)
+  one-leap l (suc n) e h =
+      let last : l + 1 + suc n ≡ suc (l + 1 + n) = omega arith in
+      rw (last, h (l + 1 + n) (omega arith) (omega arith), leapNumber) (one-leap l n e (λ i low high. h i low (omega (arith, high))))
+
+-- 0 in a year of twelve months ..
+pub leap-0 : (r : Rules) (y : ℕ) → Twelve r y → yearIn r y .leap ≡ 0
+unfolding yearIn
+leap-0 r y t = rw (t .count) (none-leap r (firstMonth r y) 12 (λ i h. t .each i h .not-leap))
+
+-- .. and in one of thirteen the number of the month that holds no mid-term
+pub leap-is : (r : Rules) (y : ℕ) (t : Thirteen r y) → yearIn r y .leap ≡ t .leapNumber
+unfolding yearIn
+leap-is r y t =
+    let k = firstMonth r y in
+    let l = t .leapNumber in
+    let all : l + 1 + (12 - l) ≡ 13 = omega (arith, t .to-12) in
+    rw (t .count) (rw all at (one-leap r k l (12 - l) (t .leap .leap) (λ i low high. behind t i low (omega (arith, high)))) ∙ t .leap .number)
+  where
+    behind : (t : Thirteen r y) (i : ℕ) → t .leapNumber < i → i < 13 → isLeap r (firstMonth r y + i) ≡ false
+    behind t i low high =
+        let on : firstMonth r y + (i - 1) + 1 ≡ firstMonth r y + i = omega (arith, low) in
+        rw on at (t .behind (i - 1) (omega (arith, low)) (omega (arith, low, high)) .not-leap)

@@ -1,0 +1,4 @@
+pub mod Dates
+pub mod Years
+pub mod Answers
+pub mod Room

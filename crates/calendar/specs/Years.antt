@@ -1,0 +1,45 @@
+-- A year and its months in order.
+use mathlib.Core.Bool.{true, false}
+use mathlib.Core.List.{List, [], _∷_}
+use Prim.Native.Nat.{ℕ, zero, suc, _+_, _-_}
+use lib.ListN.{replicate}
+use Rattle.numbers.specs.Answer.{Answer, given, need}
+use Rattle.months.specs.Rules.{Rules, dayNumber}
+use Rattle.months.specs.Months.{firstMonth, monthCount, firstDay, nextFirstDay, isLeap, numberOf}
+use Rattle.calendar.specs.declared.Month.{Month}
+use Rattle.calendar.specs.declared.Year.{Year}
+use Rattle.calendar.specs.Dates.{isCalendar, rulesFor, isCovered, monthLength}
+
+-- month k as a year lists it
+abbrev pub listed : Rules → ℕ → Month
+listed r k = record { number = numberOf r k; leap = isLeap r k; length = monthLength r k; «first_day» = dayNumber r (r .start k) }
+
+-- a place that is not used
+abbrev pub noMonth : Month
+noMonth = record { number = 0; leap = false; length = 0; «first_day» = 0 }
+
+-- so many places: first so many months from month k on, in order, then places that are not used
+unfoldable pub places : (ℕ → Month) → ℕ → ℕ → ℕ → List Month
+places month k count zero = []
+places month k zero (suc n) = noMonth ∷ places month k zero n
+places month k (suc count) (suc n) = month k ∷ places month (k + 1) count n
+
+-- the number of the leap month among so many from month k on, or 0
+unfoldable pub leapNumber : (ℕ → Month) → ℕ → ℕ → ℕ
+leapNumber month k zero = 0
+leapNumber month k (suc count) = elim (month (k + count) .leap) [ true ↦ month (k + count) .number | false ↦ leapNumber month k count ]
+
+unfoldable pub yearIn : Rules → ℕ → Year
+yearIn r y =
+    let k : ℕ = firstMonth r y in
+    let count : ℕ = monthCount r y in
+    record { days = nextFirstDay r y - firstDay r y; leap = leapNumber (listed r) k count; count = count; months = places (listed r) k count 13 }
+
+abbrev pub noYear : Year
+noYear = record { days = 0; leap = 0; count = 0; months = replicate 13 noMonth }
+
+-- the year of a number
+unfoldable pub yearOf : ℕ → ℕ → Answer Year
+yearOf c y =
+    let r : Rules = rulesFor c in
+    need (isCalendar c) 1 (need (isCovered r y) 2 (given (yearIn r y)))

@@ -1,0 +1,341 @@
+ghost use mathlib.Core.Path.{_≡_};
+ghost use Prim.Native.Nat.{_<_};
+ghost use Rattle.months.specs.Rules.{rulesOf};
+ghost use Rattle.calendar.specs.Dates.{coveredDays, dayOf, dateIn, dateOf, cycle};
+ghost use Rattle.calendar.specs.Years.{listed, noMonth, noYear, yearIn, yearOf};
+ghost use Rattle.calendar.specs.Answers.{calendarMeans, yearMeans, monthMeans, dayMeans, dateMeans, yearAnswer, refusalIn};
+ghost use Rattle.calendar.specs.Room.{calendarOf, yearAsked, monthAsked, CoveredYear, CoveredDay, CoveredSpan, CoveredMonths, listedAt, listing};
+use months::Calendar;
+use months::Span;
+
+// The calendar that a number names, or the refusal.
+enum CalendarAsked {
+    Known(Calendar),
+    Refused(u8),
+}
+
+// The covered year that two numbers name, or the refusal.
+enum YearAsked {
+    Covered(Calendar, u16),
+    Refused(u8),
+}
+
+// The month that a date names, or the refusal.
+enum MonthAsked {
+    Found(Calendar, Span),
+    Refused(u8),
+}
+
+// A day number, or the refusal.
+pub enum DayAnswer {
+    Day(u32),
+    Refused(u8),
+}
+
+pub struct Date {
+    pub year: u16,
+    pub month: u8,
+    pub leap: bool,
+    pub day: u8,
+}
+
+pub enum DateAnswer {
+    Date(Date),
+    Refused(u8),
+}
+
+// A month of a year, its first day by day number.
+pub struct Month {
+    pub number: u8,
+    pub leap: bool,
+    pub length: u8,
+    pub first_day: u32,
+}
+
+// A year: its days, the number of its leap month or 0, and its months in order. Places after the last month hold zero.
+pub struct Year {
+    pub days: u16,
+    pub leap: u8,
+    pub count: u8,
+    pub months: [Month; 13],
+}
+
+// A year, or the refusal's number and a year of zeros.
+pub struct YearAnswer {
+    pub refusal: u8,
+    pub year: Year,
+}
+
+// Days by day number, from `first` to the eve of `after`.
+struct Days {
+    first: u64,
+    after: u64,
+}
+
+// What is known of a year after some of its months.
+struct Listing {
+    leap: u8,
+    months: [Month; 13],
+}
+
+fn asked_calendar(number: u64) -> CalendarAsked
+    ensures { λ r. ⌜ calendarMeans r ≡ calendarOf number ⌝ }
+{
+    if number == 1 {
+        return CalendarAsked::Known(Calendar::Senmyo);
+    }
+    if number == 2 {
+        return CalendarAsked::Known(Calendar::Genka);
+    }
+    CalendarAsked::Refused(1)
+}
+
+fn calendar_refusal(asked: CalendarAsked) -> u8
+    ensures { λ r. ⌜ r ≡ refusalIn (calendarMeans asked) ⌝ }
+{
+    match asked {
+        CalendarAsked::Known(_) => 0,
+        CalendarAsked::Refused(number) => number,
+    }
+}
+
+fn asked_year(calendar: u64, year: u64) -> YearAsked
+    ensures { λ r. ⌜ yearMeans r ≡ yearAsked calendar year ⌝ }
+{
+    let asked = asked_calendar(calendar);
+    let CalendarAsked::Known(known) = asked else {
+        return YearAsked::Refused(calendar_refusal(asked));
+    };
+    let years = months::covered_years(known);
+    if year < years.first as u64 {
+        return YearAsked::Refused(2);
+    }
+    if (years.last as u64) < year {
+        return YearAsked::Refused(2);
+    }
+    YearAsked::Covered(known, year as u16)
+}
+
+fn year_refusal(asked: YearAsked) -> u8
+    ensures { λ r. ⌜ r ≡ refusalIn (yearMeans asked) ⌝ }
+{
+    match asked {
+        YearAsked::Covered(_, _) => 0,
+        YearAsked::Refused(number) => number,
+    }
+}
+
+// Month `number` of a year is the one that has its mid-term of that number; its leap month, if it has one, is the next.
+fn asked_month(calendar: u64, year: u64, number: u64, leap: bool) -> MonthAsked
+    ensures { λ r. ⌜ monthMeans r ≡ monthAsked calendar year number leap ⌝ }
+{
+    let asked = asked_year(calendar, year);
+    let YearAsked::Covered(known, covered) = asked else {
+        return MonthAsked::Refused(year_refusal(asked));
+    };
+    if number < 1 {
+        return MonthAsked::Refused(3);
+    }
+    if 12 < number {
+        return MonthAsked::Refused(3);
+    }
+    let regular = months::month_with(known, covered, (number - 1) as u8);
+    if leap {
+        let after = months::month_after(known, regular);
+        let name = months::name_of(known, after);
+        if name.leap {
+            return MonthAsked::Found(known, after);
+        }
+        return MonthAsked::Refused(3);
+    }
+    MonthAsked::Found(known, regular)
+}
+
+fn month_refusal(asked: MonthAsked) -> u8
+    ensures { λ r. ⌜ r ≡ refusalIn (monthMeans asked) ⌝ }
+{
+    match asked {
+        MonthAsked::Found(_, _) => 0,
+        MonthAsked::Refused(number) => number,
+    }
+}
+
+// The day of a date.
+pub fn day_of(calendar: u64, year: u64, month: u64, leap: bool, day: u64) -> DayAnswer
+    ensures { λ r. ⌜ dayMeans r ≡ dayOf calendar year month leap day ⌝ }
+{
+    let asked = asked_month(calendar, year, month, leap);
+    let MonthAsked::Found(known, span) = asked else {
+        return DayAnswer::Refused(month_refusal(asked));
+    };
+    if day < 1 {
+        return DayAnswer::Refused(4);
+    }
+    if span.next - span.start < day {
+        return DayAnswer::Refused(4);
+    }
+    DayAnswer::Day((span.start + day - 1 - months::day_zero(known)) as u32)
+}
+
+fn covered_days(calendar: Calendar) -> Days
+    ensures { λ r. ⌜ r ≡ coveredDays (rulesOf calendar) ⌝ }
+{
+    match calendar {
+        Calendar::Senmyo => Days {
+            first: 2_021_320,
+            after: 2_336_529,
+        },
+        Calendar::Genka => Days {
+            first: 1_883_618,
+            after: 1_976_049,
+        },
+    }
+}
+
+// The date on a day, told in whole days from the calendar's origin.
+fn date_in(calendar: Calendar, day: u32) -> Date
+    requires { ⌜ CoveredDay (rulesOf calendar) day ⌝ }
+    ensures { λ r. ⌜ r ≡ dateIn (rulesOf calendar) day ⌝ }
+{
+    let span = months::month_of(calendar, day);
+    let name = months::name_of(calendar, span);
+    Date {
+        year: months::year_with(calendar, span),
+        month: name.number,
+        leap: name.leap,
+        day: (day as u64 - span.start + 1) as u8,
+    }
+}
+
+// The date of a day.
+pub fn date_of(calendar: u64, day: u64) -> DateAnswer
+    ensures { λ r. ⌜ dateMeans r ≡ dateOf calendar day ⌝ }
+{
+    let asked = asked_calendar(calendar);
+    let CalendarAsked::Known(known) = asked else {
+        return DateAnswer::Refused(calendar_refusal(asked));
+    };
+    let days = covered_days(known);
+    if day < days.first {
+        return DateAnswer::Refused(5);
+    }
+    if days.after <= day {
+        return DateAnswer::Refused(5);
+    }
+    DateAnswer::Date(date_in(known, (day + months::day_zero(known)) as u32))
+}
+
+// The place of a day in the cycle of sixty, 0 to 59.
+pub fn cycle_of(day: u64) -> u8
+    ensures { λ r. ⌜ r ≡ cycle day ⌝ }
+{
+    ((day % 60 + 49) % 60) as u8
+}
+
+fn no_month() -> Month
+    ensures { λ r. ⌜ r ≡ noMonth ⌝ }
+{
+    Month {
+        number: 0,
+        leap: false,
+        length: 0,
+        first_day: 0,
+    }
+}
+
+fn no_year() -> Year
+    ensures { λ r. ⌜ r ≡ noYear ⌝ }
+{
+    Year {
+        days: 0,
+        leap: 0,
+        count: 0,
+        months: [no_month(); 13],
+    }
+}
+
+fn listed_month(calendar: Calendar, span: Span) -> Month
+    requires { ⌜ CoveredSpan (rulesOf calendar) span ⌝ }
+    ensures { λ r. ⌜ r ≡ listed (rulesOf calendar) (span .month) ⌝ }
+{
+    let name = months::name_of(calendar, span);
+    Month {
+        number: name.number,
+        leap: name.leap,
+        length: (span.next - span.start) as u8,
+        first_day: (span.start - months::day_zero(calendar)) as u32,
+    }
+}
+
+// One more month, at its place.
+fn list(calendar: Calendar, span: Span, place: usize, listing: Listing) -> Listing
+    requires { ⌜ CoveredSpan (rulesOf calendar) span × (place < 13) ⌝ }
+    ensures { λ r. ⌜ r ≡ listedAt (rulesOf calendar) (span .month) place listing ⌝ }
+{
+    let month = listed_month(calendar, span);
+    let mut months = listing.months;
+    months[place] = month;
+    if month.leap {
+        return Listing {
+            leap: month.number,
+            months,
+        };
+    }
+    Listing {
+        leap: listing.leap,
+        months,
+    }
+}
+
+// So many months from a month on.
+fn list_from(calendar: Calendar, first: Span, count: usize) -> Listing
+    requires { ⌜ CoveredMonths (rulesOf calendar) first count ⌝ }
+    ensures { λ r. ⌜ r ≡ listing (rulesOf calendar) (first .month) count ⌝ }
+{
+    let mut listing = Listing {
+        leap: 0,
+        months: [no_month(); 13],
+    };
+    let mut span = first;
+    let mut place: usize = 0;
+    while place < count {
+        listing = list(calendar, span, place, listing);
+        span = months::month_after(calendar, span);
+        place += 1;
+    }
+    listing
+}
+
+fn year_in(calendar: Calendar, year: u16) -> Year
+    requires { ⌜ CoveredYear (rulesOf calendar) year ⌝ }
+    ensures { λ r. ⌜ r ≡ yearIn (rulesOf calendar) year ⌝ }
+{
+    let first = months::month_with(calendar, year, 0);
+    let next = months::month_with(calendar, year, 12);
+    let count = next.month - first.month;
+    let listing = list_from(calendar, first, count as usize);
+    let months = listing.months;
+    Year {
+        days: (next.start - first.start) as u16,
+        leap: listing.leap,
+        count: count as u8,
+        months,
+    }
+}
+
+// The months of a year.
+pub fn year_of(calendar: u64, year: u64) -> YearAnswer
+    ensures { λ r. ⌜ r ≡ yearAnswer (yearOf calendar year) ⌝ }
+{
+    let asked = asked_year(calendar, year);
+    let YearAsked::Covered(known, covered) = asked else {
+        return YearAnswer {
+            refusal: year_refusal(asked),
+            year: no_year(),
+        };
+    };
+    YearAnswer {
+        refusal: 0,
+        year: year_in(known, covered),
+    }
+}

@@ -1,0 +1,62 @@
+-- Of several conditions the first that fails names the refusal, and an answer is given exactly if all hold.
+use mathlib.Core.Path.{_≡_, refl, sym}
+use mathlib.Core.Bool.{Bool, true, false, false≢true}
+use Prim.Native.Nat.{ℕ}
+use Rattle.numbers.specs.Answer.{Answer, given, refused, need, then}
+
+-- one thing holds exactly if another does
+pub record Exactly (A B : Type 0) : Type 0 where
+  pub if : B → A
+  pub only-if : A → B
+
+-- what holds exactly if two things do, and the second exactly if a third does
+pub after : {A P B C : Type 0} → Exactly A (P × B) → Exactly B C → Exactly A (P × C)
+after e f = record { if = λ h. e .if (h .0, f .if (h .1)); only-if = λ a. let h = e .only-if a in (h .0, f .only-if (h .1)) }
+
+-- ---- answers
+
+pub not-given : {A : Type 0} (n : ℕ) (a : A) → refused n ≡ given a → ⊥
+not-given n a e = false≢true cc
+
+pub not-refused : {A : Type 0} (n : ℕ) (a : A) → given a ≡ refused n → ⊥
+not-refused n a e = not-given n a (sym e)
+
+pub one-given : {A : Type 0} (a b : A) → given a ≡ given b → a ≡ b
+one-given a b e = cc
+
+pub one-refusal : {A : Type 0} (n m : ℕ) → _≡_ {A = Answer A} (refused n) (refused m) → n ≡ m
+one-refusal n m e = cc
+
+-- ---- conditions
+
+module _ {A : Type 0} (n : ℕ) (answer : Answer A) where
+  pub fails : (b : Bool) → b ≡ false → need b n answer ≡ refused n
+  fails b e = rw e
+
+  pub holds : (b : Bool) → b ≡ true → need b n answer ≡ answer
+  holds b e = rw e
+
+  -- given exactly if the condition holds and what follows gives it
+  pub gives : (b : Bool) (a : A) → Exactly (need b n answer ≡ given a) ((b ≡ true) × (answer ≡ given a))
+  gives true a = record { if = λ h. h .1; only-if = λ e. (refl, e) }
+  gives false a = record { if = λ h. absurd (false≢true (h .0)); only-if = λ e. absurd (not-given n a e) }
+
+  -- refused with its number exactly if the condition fails, where nothing later has that number
+  pub refuses : (b : Bool) → (answer ≡ refused n → ⊥) → Exactly (need b n answer ≡ refused n) (b ≡ false)
+  refuses true none = record { if = λ h. absurd (false≢true (sym h)); only-if = λ e. absurd (none e) }
+  refuses false none = record { if = λ h. refl; only-if = λ e. refl }
+
+  -- refused with another number exactly if the condition holds and what follows is so refused
+  pub passes : (b : Bool) (m : ℕ) → (n ≡ m → ⊥) → Exactly (need b n answer ≡ refused m) ((b ≡ true) × (answer ≡ refused m))
+  passes true m other = record { if = λ h. h .1; only-if = λ e. (refl, e) }
+  passes false m other = record { if = λ h. absurd (false≢true (h .0)); only-if = λ e. absurd (other (one-refusal n m e)) }
+
+  -- never refused with a number that neither has
+  pub never : (b : Bool) (m : ℕ) → (n ≡ m → ⊥) → (answer ≡ refused m → ⊥) → need b n answer ≡ refused m → ⊥
+  never true m other none e = none e
+  never false m other none e = other (one-refusal n m e)
+
+-- a step after a condition is a condition before the step
+pub then-need : {A B : Type 0} (b : Bool) (n : ℕ) (answer : Answer A) (step : A → Answer B) → then (need b n answer) step ≡ need b n (then answer step)
+then-need true n answer step = refl
+then-need false n answer step = refl

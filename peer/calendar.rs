@@ -1,0 +1,70 @@
+//! The two calendars behind one set of questions.
+
+use crate::{genka, senmyo};
+use std::ops::RangeInclusive;
+
+#[derive(Clone, Copy)]
+pub enum Calendar {
+    Senmyo = 1,
+    Genka = 2,
+}
+
+pub const ALL: [Calendar; 2] = [Calendar::Senmyo, Calendar::Genka];
+
+impl Calendar {
+    pub fn number(self) -> i64 {
+        self as i64
+    }
+
+    pub fn years(self) -> RangeInclusive<i64> {
+        match self {
+            Calendar::Senmyo => senmyo::YEARS,
+            Calendar::Genka => genka::YEARS,
+        }
+    }
+
+    pub fn rain_water(self, year: i64) -> i64 {
+        match self {
+            Calendar::Senmyo => senmyo::rain_water(year),
+            Calendar::Genka => genka::rain_water(year),
+        }
+    }
+
+    pub fn mid_term_number(self, mid_term: i64) -> i64 {
+        match self {
+            Calendar::Senmyo => senmyo::mid_term_number(mid_term),
+            Calendar::Genka => genka::mid_term_number(mid_term),
+        }
+    }
+
+    pub fn mid_term_day(self, mid_term: i64) -> i64 {
+        match self {
+            Calendar::Senmyo => senmyo::mid_term_day(mid_term),
+            Calendar::Genka => genka::mid_term_day(mid_term),
+        }
+    }
+
+    pub fn first_day(self, new_moon: i64) -> i64 {
+        match self {
+            Calendar::Senmyo => senmyo::first_day(new_moon),
+            Calendar::Genka => genka::first_day(new_moon),
+        }
+    }
+
+    /// A new moon whose month has certainly begun before the mid-term's day.
+    pub fn new_moon_before(self, mid_term: i64) -> i64 {
+        match self {
+            Calendar::Senmyo => senmyo::new_moon_before(mid_term),
+            Calendar::Genka => genka::new_moon_before(mid_term),
+        }
+    }
+}
+
+pub fn numbered(number: i64) -> Option<Calendar> {
+    ALL.into_iter().find(|calendar| calendar.number() == number)
+}
+
+/// The day's place in the sixty-day cycle, jiazi being 0.
+pub fn cycle_number(day: i64) -> i64 {
+    (day + 49).rem_euclid(60)
+}

@@ -1,0 +1,134 @@
+//! The figures worked in the rules, each beside what the peer makes of it.
+
+use crate::calendar::cycle_number;
+use crate::months::{self, Month, Year};
+use crate::refusal::Refusal;
+use crate::units::Fen;
+use crate::{moon, senmyo, sun};
+
+const SUN_OF_1522: [i64; 12] = [
+    1136, 1483, 1484, 1154, 549, -281, -974, -1406, -1522, -1295, -733, 139,
+];
+const MOON_OF_1522: [i64; 12] = [
+    2835, 3206, 3013, 2278, 1018, -583, -1962, -2833, -3180, -2970, -2223, -973,
+];
+
+pub struct Figure {
+    pub name: String,
+    pub worked: i64,
+    pub expected: i64,
+}
+
+impl Figure {
+    pub fn agrees(&self) -> bool {
+        self.worked == self.expected
+    }
+}
+
+fn figure(name: &str, worked: i64, expected: i64) -> Figure {
+    Figure {
+        name: name.to_string(),
+        worked,
+        expected,
+    }
+}
+
+pub fn all() -> Vec<Figure> {
+    let mut figures = solstice_before_1522();
+    figures.extend(corrections_of_1522());
+    figures.extend(advances());
+    figures.extend(corrections_of_1413());
+    figures.extend(year_643());
+    figures.extend(edges_of_the_calendars());
+    figures
+}
+
+fn solstice_before_1522() -> Vec<Figure> {
+    let solstice = senmyo::solstice_before(1522);
+    let cycle = cycle_number(senmyo::day_number(solstice.whole_days()));
+    let month_11 = covered(1, 1522).months[0].new_moon - 2;
+    let before = solstice.0 - senmyo::mean_new_moon(month_11).0;
+    vec![
+        figure("1522 solstice, fen", solstice.of_the_day().0, 90),
+        figure("1522 solstice, cycle", cycle, 0),
+        figure("1522 month 11, mean fen before it", before, 121_258),
+    ]
+}
+
+fn corrections_of_1522() -> Vec<Figure> {
+    let mut figures = Vec::new();
+    for (at, month) in covered(1, 1522).months.iter().enumerate() {
+        let name = |body| format!("1522 month {}, {body}", month.number);
+        figures.push(figure(&name("Sun"), sun_of(month), SUN_OF_1522[at]));
+        figures.push(figure(&name("Moon"), moon_of(month), MOON_OF_1522[at]));
+    }
+    figures
+}
+
+fn corrections_of_1413() -> Vec<Figure> {
+    let month = &covered(1, 1413).months[0];
+    vec![
+        figure("1413 month 1, Sun", sun_of(month), 1210),
+        figure("1413 month 1, Moon", moon_of(month), 84),
+    ]
+}
+
+fn advances() -> Vec<Figure> {
+    let year = covered(1, 1522);
+    let second = senmyo::true_new_moon(year.months[1].new_moon);
+    let fifth = senmyo::true_new_moon(year.months[4].new_moon);
+    let moves = |moment| i64::from(senmyo::moves_a_day(moment));
+    vec![
+        figure("1522 month 2, fen", second.of_the_day().0, 6092),
+        figure("1522 month 2 moves", moves(second), 0),
+        figure("1522 month 5, fen", fifth.of_the_day().0, 7941),
+        figure("1522 month 5 moves", moves(fifth), 1),
+        figure("fen 6299 moves", moves(Fen(6299)), 0),
+        figure("fen 6300 moves", moves(Fen(6300)), 1),
+    ]
+}
+
+fn year_643() -> Vec<Figure> {
+    let year = covered(2, 643);
+    let months = year.months.len() as i64;
+    let day = year.months[4].first_day + 15;
+    vec![
+        figure("643 first day", year.first_day(), 1_955_939),
+        figure("643 days", year.days(), 383),
+        figure("643 months", months, 13),
+        figure("643 leap", year.leap_number(), 7),
+        figure("643 month 5 day 16", day, 1_956_072),
+        figure("643 month 5 day 16, cycle", cycle_number(day), 1),
+    ]
+}
+
+fn edges_of_the_calendars() -> Vec<Figure> {
+    let refusal = |calendar, year| months::year(calendar, year).err();
+    let number = |calendar, year| refusal(calendar, year).map_or(0, Refusal::number);
+    let day_after = |year: Year| year.first_day() + year.days();
+    vec![
+        figure("821 refused", number(1, 821), 2),
+        figure("822 first day", covered(1, 822).first_day(), 2_021_320),
+        figure("1684 day after", day_after(covered(1, 1684)), 2_336_529),
+        figure("1685 refused", number(1, 1685), 2),
+        figure("444 refused", number(2, 444), 2),
+        figure("445 first day", covered(2, 445).first_day(), 1_883_618),
+        figure("697 day after", day_after(covered(2, 697)), 1_976_049),
+        figure("698 refused", number(2, 698), 2),
+    ]
+}
+
+fn covered(calendar: i64, year: i64) -> Year {
+    let Ok(year) = months::year(calendar, year) else {
+        unreachable!("only covered years are asked for");
+    };
+    year
+}
+
+fn sun_of(month: &Month) -> i64 {
+    sun::correction(senmyo::mean_new_moon(month.new_moon).in_byo()).0
+}
+
+fn moon_of(month: &Month) -> i64 {
+    moon::correction(senmyo::mean_new_moon(month.new_moon).in_byo()).0
+}

@@ -1,0 +1,35 @@
+//! Genka's mid-terms and new moons, which go by their number from the origin,
+//! where a Rain Water (mid-term 0) and a new moon (new moon 0) fall together.
+
+use std::ops::RangeInclusive;
+
+pub const YEARS: RangeInclusive<i64> = 445..=697;
+
+const DAYS_BEFORE_DAY_NUMBER_ZERO: i64 = 200_089;
+const YEARS_BEFORE_YEAR_ZERO: i64 = 5_260;
+
+/// In so many days stand so many mid-terms, or so many new moons.
+const MID_TERMS_SPAN: i64 = 222_070;
+const MID_TERMS: i64 = 7_296;
+const NEW_MOONS_SPAN: i64 = 22_207;
+const NEW_MOONS: i64 = 752;
+
+pub fn rain_water(year: i64) -> i64 {
+    12 * (year + YEARS_BEFORE_YEAR_ZERO)
+}
+
+pub fn mid_term_number(mid_term: i64) -> i64 {
+    mid_term.rem_euclid(12) + 1
+}
+
+pub fn mid_term_day(mid_term: i64) -> i64 {
+    (MID_TERMS_SPAN * mid_term).div_euclid(MID_TERMS) - DAYS_BEFORE_DAY_NUMBER_ZERO
+}
+
+pub fn first_day(new_moon: i64) -> i64 {
+    (NEW_MOONS_SPAN * new_moon).div_euclid(NEW_MOONS) - DAYS_BEFORE_DAY_NUMBER_ZERO
+}
+
+pub fn new_moon_before(mid_term: i64) -> i64 {
+    (MID_TERMS_SPAN * mid_term * NEW_MOONS).div_euclid(MID_TERMS * NEW_MOONS_SPAN) - 1
+}

@@ -1,0 +1,81 @@
+//! The peer: an independent working of the calendar rules in plain Rust.
+//!
+//! It is tested only, not proved, and shares nothing with the proved crates.
+//! It serves to write the files that say what the programs are expected to
+//! print. Where a program and the peer differ, the rules say which of them is
+//! to be mended; an expected file is never edited to settle it.
+
+mod answers;
+mod calendar;
+mod figures;
+mod genka;
+mod lines;
+mod months;
+mod moon;
+mod refusal;
+mod rounding;
+mod senmyo;
+mod sun;
+mod units;
+
+use std::env;
+use std::process::ExitCode;
+
+fn main() -> ExitCode {
+    let words: Vec<String> = env::args_os()
+        .skip(1)
+        .map(|word| word.to_string_lossy().into_owned())
+        .collect();
+    let words: Vec<&str> = words.iter().map(String::as_str).collect();
+    match words[..] {
+        ["year", calendar, year] => print_year(calendar, year),
+        ["years"] => print_years(),
+        ["answers"] => print_answers(),
+        ["figures"] => print_figures(),
+        _ => usage(),
+    }
+}
+
+fn print_year(calendar: &str, year: &str) -> ExitCode {
+    let (Ok(calendar), Ok(year)) = (calendar.parse(), year.parse()) else {
+        return usage();
+    };
+    match months::year(calendar, year) {
+        Ok(year) => print!("{}", lines::year_table(&year)),
+        Err(refusal) => print!("{}", lines::refused(refusal)),
+    }
+    ExitCode::SUCCESS
+}
+
+fn print_years() -> ExitCode {
+    for calendar in calendar::ALL {
+        for year in months::covered_years(calendar) {
+            print!("{}", lines::year_line(&year));
+        }
+    }
+    ExitCode::SUCCESS
+}
+
+fn print_answers() -> ExitCode {
+    for input in answers::INPUTS {
+        print!("{}", answers::answer(input));
+    }
+    ExitCode::SUCCESS
+}
+
+fn print_figures() -> ExitCode {
+    let figures = figures::all();
+    for figure in &figures {
+        print!("{}", lines::figure_line(figure));
+    }
+    if figures.iter().all(figures::Figure::agrees) {
+        ExitCode::SUCCESS
+    } else {
+        ExitCode::FAILURE
+    }
+}
+
+fn usage() -> ExitCode {
+    eprintln!("usage: peer year CALENDAR YEAR | peer years | peer answers | peer figures");
+    ExitCode::from(2)
+}

@@ -1,0 +1,68 @@
+//! Senmyo's solstices, mid-terms and new moons. Mid-terms and new moons go by
+//! their number from the start of the count of years, where a solstice
+//! (mid-term 0) and a mean new moon (new moon 0) fall together.
+
+use crate::moon;
+use crate::sun;
+use crate::units::{Byo, Fen};
+use std::ops::RangeInclusive;
+
+pub const YEARS: RangeInclusive<i64> = 822..=1684;
+
+const DAYS_BEFORE_DAY_NUMBER_ZERO: i64 = 2_580_308_749;
+const YEARS_BEFORE_822: i64 = 7_070_138;
+const YEAR: Fen = Fen(3_068_055);
+const MONTH: Fen = Fen(248_057);
+const MID_TERM_SPACING: Byo = Byo(YEAR.in_byo().0 / 12);
+const ADVANCE_FROM: Fen = Fen(6_300);
+
+fn accumulated_years(year: i64) -> i64 {
+    YEARS_BEFORE_822 + (year - 822)
+}
+
+pub fn solstice_before(year: i64) -> Fen {
+    Fen(YEAR.0 * accumulated_years(year))
+}
+
+pub fn rain_water(year: i64) -> i64 {
+    12 * accumulated_years(year) + 2
+}
+
+/// The solstice is the mid-term of month 11.
+pub fn mid_term_number(mid_term: i64) -> i64 {
+    (mid_term + 10).rem_euclid(12) + 1
+}
+
+pub fn mid_term_day(mid_term: i64) -> i64 {
+    day_number(Byo(MID_TERM_SPACING.0 * mid_term).whole_days())
+}
+
+pub fn mean_new_moon(new_moon: i64) -> Fen {
+    Fen(MONTH.0 * new_moon)
+}
+
+pub fn true_new_moon(new_moon: i64) -> Fen {
+    let mean = mean_new_moon(new_moon);
+    let sun = sun::correction(mean.in_byo());
+    let moon = moon::correction(mean.in_byo());
+    Fen(mean.0 + sun.0 + moon.0)
+}
+
+pub fn moves_a_day(true_new_moon: Fen) -> bool {
+    true_new_moon.of_the_day().0 >= ADVANCE_FROM.0
+}
+
+pub fn first_day(new_moon: i64) -> i64 {
+    let moment = true_new_moon(new_moon);
+    day_number(moment.whole_days()) + i64::from(moves_a_day(moment))
+}
+
+/// A month back from the mean new moon, the corrections and the advance (under
+/// two days together) leave the month's first day before the mid-term's.
+pub fn new_moon_before(mid_term: i64) -> i64 {
+    (MID_TERM_SPACING.0 * mid_term).div_euclid(MONTH.in_byo().0) - 1
+}
+
+pub fn day_number(whole_days: i64) -> i64 {
+    whole_days - DAYS_BEFORE_DAY_NUMBER_ZERO
+}
