@@ -79,7 +79,7 @@ pub span-days : (c : Calendar) (s : Span) → CoveredSpan (rulesOf c) s → Span
 span-days c s h =
     let r = rulesOf c in
     let k = s .month in
-    let covers : Covering r k = record { from = h .from; to = h .to } in
+    let covers = h .covering in
     let start : s .start ≡ r .start k = ap (λ s. s .start) (h .own) in
     let next : s .next ≡ r .start (k + 1) = ap (λ s. s .next) (h .own) in
     let days = its-days c k covers in
@@ -88,7 +88,7 @@ span-days c s h =
       at-most = omega (arith, start, next, days .at-most);
       from = omega (arith, start, starts-covered c k covers, edges c .first-day);
       to = omega (arith, next, ends-covered c k covers, edges c .last-day);
-      fits = record { own = h .own; small = omega (arith, h .to, edges c .last-month) };
+      fits = record { own = h .own; small = omega (arith, covers .to, edges c .last-month) };
     }
 
 -- the months and days of a covered year
@@ -118,7 +118,7 @@ year-room c y covered = by-count (year .months)
 
 -- the month that has a covered day is covered ..
 pub day-span : (c : Calendar) (d : ℕ) → CoveredDay (rulesOf c) d → CoveredSpan (rulesOf c) (spanned (rulesOf c) (monthOf (rulesOf c) d))
-day-span c d h = let covers = covering-day c d (h .from) (h .to) in record { own = refl; from = covers .from; to = covers .to }
+day-span c d h = record { own = refl; covering = covering-day c d (h .from) (h .to) }
 
 -- .. and so is a month that is asked for and found
 pub asked-span : (c y m : ℕ) (leap : Bool) (k : Calendar) (s : Span) → monthAsked c y m leap ≡ given (k, s) → CoveredSpan (rulesOf k) s
@@ -128,4 +128,4 @@ asked-span c y m leap k s e =
     let covered = covered-year-told r y (g .1 .0) in
     let covers = month-covering (numbered c) y covered (monthNamed r y m leap) (name-found (numbered c) y covered m leap (g .1 .1 .0) .of-year) in
     subst (λ (a : Calendar × Span). CoveredSpan (rulesOf (a .0)) (a .1)) (one-given (numbered c, spanned r (monthNamed r y m leap)) (k, s) (g .1 .1 .1))
-    (record { own = refl; from = covers .from; to = covers .to })
+    (record { own = refl; covering = covers })

@@ -33,14 +33,15 @@ regularMonth r y m = monthWith r (r .rainWater y + (m - 1))
 abbrev pub monthNamed : Rules → ℕ → ℕ → Bool → ℕ
 monthNamed r y m leap = elim leap [ true ↦ regularMonth r y m + 1 | false ↦ regularMonth r y m ]
 
--- months 1 to 12, and a leap month which the year has
+-- refusal 3: "month not 1 to 12, or a leap month this year lacks"
 abbrev pub hasMonth : Rules → ℕ → ℕ → Bool → Bool
 hasMonth r y m leap = (leb 1 m && leb m 12) && elim leap [ true ↦ isLeap r (regularMonth r y m + 1) | false ↦ true ]
 
--- days 1 to the month's length
+-- how many days month k has
 abbrev pub monthLength : Rules → ℕ → ℕ
 monthLength r k = r .start (k + 1) - r .start k
 
+-- refusal 4: "day 0 or past the month"
 abbrev pub hasDay : Rules → ℕ → ℕ → Bool
 hasDay r k d = leb 1 d && leb d (monthLength r k)
 

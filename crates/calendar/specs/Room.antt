@@ -8,6 +8,7 @@ use Rattle.months.specs.declared.Calendar.{Calendar}
 use Rattle.months.specs.declared.Span.{Span}
 use Rattle.months.specs.Rules.{Rules}
 use Rattle.months.specs.Months.{spanned, firstMonth, firstDay, nextFirstDay, isLeap, numberOf}
+use Rattle.months.specs.Room.{Covering}
 use Rattle.calendar.specs.declared.Listing.{Listing}
 use Rattle.calendar.specs.Dates.{isCalendar, numbered, rulesFor, isCovered, hasMonth, monthNamed}
 use Rattle.calendar.specs.Years.{listed, places, leapNumber}
@@ -40,8 +41,7 @@ pub record CoveredDay (r : Rules) (d : ℕ) : Type 0 where
 -- the days are the month's own, and it is covered
 pub record CoveredSpan (r : Rules) (s : Span) : Type 0 where
   pub own : s ≡ spanned r (s .month)
-  pub from : firstMonth r (r .firstYear) ≤ s .month
-  pub to : s .month < firstMonth r (r .lastYear + 1)
+  pub covering : Covering r (s .month)
 
 -- so many months from a covered one on are covered, and at most thirteen
 pub record CoveredMonths (r : Rules) (s : Span) (count : ℕ) : Type 0 where

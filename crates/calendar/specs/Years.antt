@@ -1,4 +1,4 @@
--- A year and its months in order.
+-- A year and its months in order (01, "Months and leap"; what the program prints, at the end of "Worked figures").
 use mathlib.Core.Bool.{true, false}
 use mathlib.Core.List.{List, [], _∷_}
 use Prim.Native.Nat.{ℕ, zero, suc, _+_, _-_}
@@ -29,12 +29,14 @@ unfoldable pub leapNumber : (ℕ → Month) → ℕ → ℕ → ℕ
 leapNumber month k zero = 0
 leapNumber month k (suc count) = elim (month (k + count) .leap) [ true ↦ month (k + count) .number | false ↦ leapNumber month k count ]
 
+-- year y: its days, leap number or 0, count of months, and its months in order in 13 places
 unfoldable pub yearIn : Rules → ℕ → Year
 yearIn r y =
     let k : ℕ = firstMonth r y in
     let count : ℕ = monthCount r y in
     record { days = nextFirstDay r y - firstDay r y; leap = leapNumber (listed r) k count; count = count; months = places (listed r) k count 13 }
 
+-- every field zero
 abbrev pub noYear : Year
 noYear = record { days = 0; leap = 0; count = 0; months = replicate 13 noMonth }
 

@@ -1,9 +1,12 @@
 -- `calendar::asked_month` meets its contract: month `number` has the mid-term of that number, and a leap month is looked for behind it.
 use mathlib.Core.Path.{_≡_, refl, sym, ap, _∙_}
+use Prim.Native.Nat.{ℕ, _+_}
 use native.Mathlib.Omega.{arith}
 use borrow.Author.Needs.{needs}
 use Rattle.numbers.specs.Answer.{given}
-use Rattle.months.specs.Rules.{rulesOf}
+use Rattle.months.specs.Rules.{Rules, rulesOf}
+use Rattle.months.specs.Months.{isLeap}
+use Rattle.calendar.specs.Dates.{regularMonth}
 use Rattle.calendar.specs.Answers.{yearMeans, refusalIn}
 use Rattle.calendar.specs.Room.{yearAsked, CoveredYear}
 use Rattle.calendar.proofs.Steps.{month-refused, month-0, month-13, regular-found, leap-found, leap-lacking}
@@ -33,6 +36,13 @@ returns c =
 year-asked : (c : tie.After-known-told) → yearAsked (c .before .before .before .before .args .calendar) (c .before .before .before .before .args .year) ≡ given (c .before .asked .given .0 .0, c .before .asked .given .0 .1 .0)
 year-asked c = sym (c .before .before .before .asked-year .ensures) ∙ ap yearMeans (c .before .asked .given .1)
 
+-- .. its calendar's rules, and the month of that number which is not leap
+abbrev rules : tie.After-known-told → Rules
+rules c = rulesOf (c .before .asked .given .0 .0)
+
+abbrev regular : tie.After-known-told → ℕ
+regular c = regularMonth (rules c) (c .before .asked .given .0 .1 .0) (c .before .before .before .before .args .number)
+
 covered : (c : tie.After-known-told) → CoveredYear (rulesOf (c .before .asked .given .0 .0)) (c .before .asked .given .0 .1 .0)
 covered c = asked-covered _ _ _ _ (year-asked c)
 
@@ -58,17 +68,23 @@ name-of-requires c κs =
     let there = c .before .before .before in
     rw (c .month-after .ensures, c .before .before .month-with .ensures) (record { own = refl; small = regular-small _ _ (covered (there .before .before)) _ (there .before .if1 .left) (there .if2 .left) })
 
+-- whether the month after is leap was read off its name
+leap-told : (c : tie.After-name-of) → isLeap (rules (c .before .before .before .before .before .before)) (regular (c .before .before .before .before .before .before) + 1) ≡ c .name-of .result .leap
+leap-told c =
+    let told = ap (λ n. n .leap) (sym (c .name-of .ensures)) in
+    rw (c .before .month-after .ensures, c .before .before .before .month-with .ensures) at told
+
 returns-4 : tie.Need-returns-4
 returns-4 c =
     let after = c .before .before in
     let there = after .before .before .before in
-    leap-found _ _ _ _ _ _ (year-asked (there .before .before)) (there .before .if1 .left) (there .if2 .left) _ (after .before .if3 .taken) (rw (after .month-after .ensures, after .before .before .month-with .ensures) at (ap (λ n. n .leap) (sym (c .before .name-of .ensures)) ∙ c .if4 .taken)) (rw (after .before .before .month-with .ensures) at (after .month-after .ensures))
+    leap-found _ _ _ _ _ _ (year-asked (there .before .before)) (there .before .if1 .left) (there .if2 .left) _ (after .before .if3 .taken) (leap-told (c .before) ∙ c .if4 .taken) (rw (after .before .before .month-with .ensures) at (after .month-after .ensures))
 
 returns-5 : tie.Need-returns-5
 returns-5 c =
     let after = c .before .before in
     let there = after .before .before .before in
-    leap-lacking _ _ _ _ _ _ (year-asked (there .before .before)) (there .before .if1 .left) (there .if2 .left) (after .before .if3 .taken) (rw (after .month-after .ensures, after .before .before .month-with .ensures) at (ap (λ n. n .leap) (sym (c .before .name-of .ensures)) ∙ c .if4 .left))
+    leap-lacking _ _ _ _ _ _ (year-asked (there .before .before)) (there .before .if1 .left) (there .if2 .left) (after .before .if3 .taken) (leap-told (c .before) ∙ c .if4 .left)
 
 returns-6 : tie.Need-returns-6
 returns-6 c =

@@ -37,7 +37,7 @@ name-of-requires : tie.Need-name-of-requires
 name-of-requires c κs = days c .fits
 
 year-with-requires : tie.Need-year-with-requires
-year-with-requires c κs = let s = span (c .before) in (days (c .before) .fits, record { from = s .from; to = s .to })
+year-with-requires c κs = (days (c .before) .fits, span (c .before) .covering)
 
 sub-t7 : tie.Need-sub-t7
 sub-t7 c = has-day (c .before .before .before) .from

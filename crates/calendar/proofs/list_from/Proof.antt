@@ -34,7 +34,7 @@ span-covered : (c : tie.In-loop Inv-loop μ-loop) → CoveredSpan (rulesOf (c .b
 span-covered c =
     let at = c .before .before .before .args in
     let covered : CoveredMonths (rulesOf (at .calendar)) (at .first) (at .count) = search needs in
-    rw (c .before .loop .inv .1) (record { own = refl; from = omega (arith, covered .from); to = omega (arith, covered .to, c .loop-test .taken) })
+    rw (c .before .loop .inv .1) (record { own = refl; covering = record { from = omega (arith, covered .from); to = omega (arith, covered .to, c .loop-test .taken) } })
 
 list-requires : tie.Need-list-requires Inv-loop μ-loop
 list-requires c κs =
