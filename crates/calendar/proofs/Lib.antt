@@ -1,6 +1,5 @@
 pub mod Steps
 pub mod Refusals
-pub mod Names
 pub mod Covered
 pub mod OneDate
 pub mod Places

@@ -14,12 +14,15 @@ use Rattle.months.specs.Months.{monthOf, yearWith}
 use Rattle.months.proofs.FirstMonths.{year-holds, year-is, year-from, year-to}
 use Rattle.months.proofs.Calendars.{steady}
 use Rattle.months.proofs.CoveredYears.{edges, its-year, starts-covered, ends-covered, covering-day}
+use Rattle.asked.specs.Asked.{isCalendar, numbered, rulesFor, isCovered, hasMonth, monthNamed}
+use Rattle.asked.specs.Room.{CoveredYear}
+use Rattle.asked.proofs.Names.{named-back}
+use Rattle.asked.proofs.Covered.{covered-year-told, covered-year-tested, name-found, month-covering}
 use Rattle.calendar.specs.declared.Date.{Date}
-use Rattle.calendar.specs.Dates.{isCalendar, numbered, rulesFor, isCovered, hasMonth, monthNamed, monthLength, hasDay, dayIn, dayOf, isCoveredDay, dateIn, dateOf}
-use Rattle.calendar.specs.Room.{CoveredYear, CoveredDay}
+use Rattle.calendar.specs.Dates.{monthLength, hasDay, dayIn, dayOf, isCoveredDay, dateIn, dateOf}
+use Rattle.calendar.specs.Room.{CoveredDay}
 use Rattle.calendar.proofs.Refusals.{day-given, date-given}
-use Rattle.calendar.proofs.Names.{named-back}
-use Rattle.calendar.proofs.Covered.{covered-year-told, covered-year-tested, covered-day-told, covered-day-tested, name-found, month-covering}
+use Rattle.calendar.proofs.Covered.{covered-day-told, covered-day-tested}
 
 -- ---- the day of a date, and its date
 

@@ -5,14 +5,11 @@ use Prim.Native.Nat.{ℕ, _+_}
 use native.Mathlib.Omega.{arith}
 use Rattle.numbers.specs.Answer.{given, refused}
 use Rattle.numbers.proofs.Answers.{Exactly, after, gives, refuses, passes, never, not-refused}
-use Rattle.months.specs.declared.Calendar.{Calendar}
-use Rattle.months.specs.declared.Span.{Span}
-use Rattle.months.specs.Months.{spanned}
+use Rattle.asked.specs.Asked.{isCalendar, rulesFor, isCovered, hasMonth, monthNamed}
 use Rattle.calendar.specs.declared.Date.{Date}
 use Rattle.calendar.specs.declared.Year.{Year}
-use Rattle.calendar.specs.Dates.{isCalendar, numbered, rulesFor, isCovered, hasMonth, monthNamed, hasDay, dayIn, dayOf, isCoveredDay, dateIn, dateOf}
+use Rattle.calendar.specs.Dates.{hasDay, dayIn, dayOf, isCoveredDay, dateIn, dateOf}
 use Rattle.calendar.specs.Years.{yearIn, yearOf}
-use Rattle.calendar.specs.Room.{yearAsked, monthAsked}
 
 -- ---- a date's day
 
@@ -69,18 +66,6 @@ module _ (c n : ℕ) where
   pub date-refused-5 : Exactly (dateOf c n ≡ refused 5) ((isCalendar c ≡ true) × (covered-day ≡ false))
   unfolding dateOf
   date-refused-5 = after (passes 1 _ _ 5 (λ e. omega (arith, e))) (refuses 5 _ _ (not-refused 5 its-date))
-
--- ---- a year that is asked for
-
-pub asked-given : (c y : ℕ) (a : Calendar × ℕ) → Exactly (yearAsked c y ≡ given a) ((isCalendar c ≡ true) × ((isCovered (rulesFor c) y ≡ true) × (given (numbered c, y) ≡ given a)))
-unfolding yearAsked
-asked-given c y a = after (gives 1 _ _ a) (gives 2 _ _ a)
-
--- ---- a month that is asked for
-
-pub month-given : (c y m : ℕ) (leap : Bool) (a : Calendar × Span) → Exactly (monthAsked c y m leap ≡ given a) ((isCalendar c ≡ true) × ((isCovered (rulesFor c) y ≡ true) × ((hasMonth (rulesFor c) y m leap ≡ true) × (given (numbered c, spanned (rulesFor c) (monthNamed (rulesFor c) y m leap)) ≡ given a))))
-unfolding monthAsked
-month-given c y m leap a = after (gives 1 _ _ a) (after (gives 2 _ _ a) (gives 3 _ _ a))
 
 -- ---- a year's months
 

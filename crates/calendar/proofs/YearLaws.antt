@@ -14,9 +14,9 @@ use Rattle.months.specs.Year.{Twelve, Thirteen}
 use Rattle.months.proofs.Steady.{Steady}
 use Rattle.months.proofs.Terms.{number-of-last}
 use Rattle.months.proofs.Calendars.{steady}
+use Rattle.asked.specs.Room.{CoveredYear}
 use Rattle.calendar.specs.declared.Month.{Month}
 use Rattle.calendar.specs.Years.{listed, places, leapNumber, yearIn}
-use Rattle.calendar.specs.Room.{CoveredYear}
 use Rattle.calendar.proofs.Covered.{year-room}
 
 -- the days of all places together

@@ -1,34 +1,14 @@
 -- What each answer stands for: the values asked for, or the refusal's number.
 use Prim.Native.Nat.{ℕ}
 use Rattle.numbers.specs.Answer.{Answer, given, refused}
-use Rattle.months.specs.declared.Calendar.{Calendar}
-use Rattle.months.specs.declared.Span.{Span}
 use Rattle.calendar.specs.declared.Date.{Date}
 use Rattle.calendar.specs.declared.Year.{Year}
 use Rattle.calendar.specs.declared.YearAnswer.{YearAnswer}
-use Rattle.calendar.specs.declared.CalendarAsked.{CalendarAsked}
-use Rattle.calendar.specs.declared.CalendarAsked.the-variants as calendar-asked
-use Rattle.calendar.specs.declared.YearAsked.{YearAsked}
-use Rattle.calendar.specs.declared.YearAsked.the-variants as year-asked
-use Rattle.calendar.specs.declared.MonthAsked.{MonthAsked}
-use Rattle.calendar.specs.declared.MonthAsked.the-variants as month-asked
 use Rattle.calendar.specs.declared.DayAnswer.{DayAnswer}
 use Rattle.calendar.specs.declared.DayAnswer.the-variants as day-answer
 use Rattle.calendar.specs.declared.DateAnswer.{DateAnswer}
 use Rattle.calendar.specs.declared.DateAnswer.the-variants as date-answer
 use Rattle.calendar.specs.Years.{noYear}
-
-abbrev pub calendarMeans : CalendarAsked → Answer Calendar
-calendarMeans (calendar-asked.Known c) = given c
-calendarMeans (calendar-asked.Refused n) = refused n
-
-abbrev pub yearMeans : YearAsked → Answer (Calendar × ℕ)
-yearMeans (year-asked.Covered c y) = given (c, y)
-yearMeans (year-asked.Refused n) = refused n
-
-abbrev pub monthMeans : MonthAsked → Answer (Calendar × Span)
-monthMeans (month-asked.Found c s) = given (c, s)
-monthMeans (month-asked.Refused n) = refused n
 
 abbrev pub dayMeans : DayAnswer → Answer ℕ
 dayMeans (day-answer.Day n) = given n
@@ -42,8 +22,3 @@ dateMeans (date-answer.Refused n) = refused n
 abbrev pub yearAnswer : Answer Year → YearAnswer
 yearAnswer (given y) = record { refusal = 0; year = y }
 yearAnswer (refused n) = record { refusal = n; year = noYear }
-
--- the number of a refusal, and 0 of any other answer
-abbrev pub refusalIn : {A : Type 0} → Answer A → ℕ
-refusalIn (given a) = 0
-refusalIn (refused n) = n

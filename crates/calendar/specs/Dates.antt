@@ -1,41 +1,13 @@
 -- Dates and days, with their refusals (01, "Refusal numbers"; the second demand).
-use mathlib.Core.Bool.{Bool, true, false, _&&_, _||_}
+use mathlib.Core.Bool.{Bool, _&&_}
 use Prim.Native.Nat.{ℕ, _+_, _-_, _%_}
-use lib.Dec.{eqb, leb, ltb}
+use lib.Dec.{leb, ltb}
 use Rattle.numbers.specs.Answer.{Answer, given, need}
-use Rattle.months.specs.declared.Calendar.{Calendar}
-use Rattle.months.specs.declared.Calendar.the-variants.{Senmyo, Genka}
-use Rattle.months.specs.Rules.{Rules, rulesOf, dayNumber}
-use Rattle.months.specs.Months.{monthOf, monthWith, firstDay, nextFirstDay, yearWith, isLeap, numberOf}
+use Rattle.months.specs.Rules.{Rules, dayNumber}
+use Rattle.months.specs.Months.{monthOf, firstDay, nextFirstDay, yearWith, isLeap, numberOf}
+use Rattle.asked.specs.Asked.{isCalendar, rulesFor, isCovered, monthNamed, hasMonth}
 use Rattle.calendar.specs.declared.Date.{Date}
 use Rattle.calendar.specs.declared.Days.{Days}
-
--- two calendars by number: 1 Senmyo, 2 Genka
-abbrev pub isCalendar : ℕ → Bool
-isCalendar c = eqb c 1 || eqb c 2
-
--- .. which of the two, where it is one of them
-abbrev pub numbered : ℕ → Calendar
-numbered c = elim (eqb c 1) [ true ↦ Senmyo | false ↦ Genka ]
-
-abbrev pub rulesFor : ℕ → Rules
-rulesFor c = rulesOf (numbered c)
-
--- the covered years
-abbrev pub isCovered : Rules → ℕ → Bool
-isCovered r y = leb (r .firstYear) y && leb y (r .lastYear)
-
--- month m of year y has the mid-term of its number ..
-abbrev pub regularMonth : Rules → ℕ → ℕ → ℕ
-regularMonth r y m = monthWith r (r .rainWater y + (m - 1))
-
--- .. and the leap month of that number, if there is one, follows it
-abbrev pub monthNamed : Rules → ℕ → ℕ → Bool → ℕ
-monthNamed r y m leap = elim leap [ true ↦ regularMonth r y m + 1 | false ↦ regularMonth r y m ]
-
--- refusal 3: "month not 1 to 12, or a leap month this year lacks"
-abbrev pub hasMonth : Rules → ℕ → ℕ → Bool → Bool
-hasMonth r y m leap = (leb 1 m && leb m 12) && elim leap [ true ↦ isLeap r (regularMonth r y m + 1) | false ↦ true ]
 
 -- how many days month k has
 abbrev pub monthLength : Rules → ℕ → ℕ

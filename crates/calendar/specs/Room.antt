@@ -1,47 +1,20 @@
 -- What inner functions find, and what they ask of their callers, which have made sure of it. No rule of the calendar.
 use mathlib.Core.Path.{_≡_}
-use mathlib.Core.Bool.{Bool, true, false}
+use mathlib.Core.Bool.{true, false}
 use Prim.Native.Nat.{ℕ, _+_, _<_, _≤_}
 use lib.ListN.{set}
-use Rattle.numbers.specs.Answer.{Answer, given, need}
-use Rattle.months.specs.declared.Calendar.{Calendar}
 use Rattle.months.specs.declared.Span.{Span}
 use Rattle.months.specs.Rules.{Rules}
 use Rattle.months.specs.Months.{spanned, firstMonth, firstDay, nextFirstDay, isLeap, numberOf}
-use Rattle.months.specs.Room.{Covering}
 use Rattle.calendar.specs.declared.Listing.{Listing}
-use Rattle.calendar.specs.Dates.{isCalendar, numbered, rulesFor, isCovered, hasMonth, monthNamed}
 use Rattle.calendar.specs.Years.{listed, places, leapNumber}
 
--- ---- the steps of a look-up, each with the refusals up to it
-
-abbrev pub calendarOf : ℕ → Answer Calendar
-calendarOf c = need (isCalendar c) 1 (given (numbered c))
-
-unfoldable pub yearAsked : ℕ → ℕ → Answer (Calendar × ℕ)
-yearAsked c y = need (isCalendar c) 1 (need (isCovered (rulesFor c) y) 2 (given (numbered c, y)))
-
-unfoldable pub monthAsked : ℕ → ℕ → ℕ → Bool → Answer (Calendar × Span)
-monthAsked c y m leap =
-    let r : Rules = rulesFor c in
-    need (isCalendar c) 1 (need (isCovered r y) 2 (need (hasMonth r y m leap) 3 (given (numbered c, spanned r (monthNamed r y m leap)))))
-
 -- ---- what is asked
-
--- year y is covered
-pub record CoveredYear (r : Rules) (y : ℕ) : Type 0 where
-  pub from : r .firstYear ≤ y
-  pub to : y ≤ r .lastYear
 
 -- whole day d is covered
 pub record CoveredDay (r : Rules) (d : ℕ) : Type 0 where
   pub from : firstDay r (r .firstYear) ≤ d
   pub to : d < nextFirstDay r (r .lastYear)
-
--- the days are the month's own, and it is covered
-pub record CoveredSpan (r : Rules) (s : Span) : Type 0 where
-  pub own : s ≡ spanned r (s .month)
-  pub covering : Covering r (s .month)
 
 -- so many months from a covered one on are covered, and at most thirteen
 pub record CoveredMonths (r : Rules) (s : Span) (count : ℕ) : Type 0 where

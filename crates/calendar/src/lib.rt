@@ -1,30 +1,16 @@
 ghost use mathlib.Core.Path.{_≡_};
 ghost use Prim.Native.Nat.{_<_};
 ghost use Rattle.months.specs.Rules.{rulesOf};
+ghost use Rattle.asked.specs.Room.{CoveredYear, CoveredSpan};
 ghost use Rattle.calendar.specs.Dates.{coveredDays, dayOf, dateIn, dateOf, cycle};
 ghost use Rattle.calendar.specs.Years.{listed, noMonth, noYear, yearIn, yearOf};
-ghost use Rattle.calendar.specs.Answers.{calendarMeans, yearMeans, monthMeans, dayMeans, dateMeans, yearAnswer, refusalIn};
-ghost use Rattle.calendar.specs.Room.{calendarOf, yearAsked, monthAsked, CoveredYear, CoveredDay, CoveredSpan, CoveredMonths, listedAt, listing};
+ghost use Rattle.calendar.specs.Answers.{dayMeans, dateMeans, yearAnswer};
+ghost use Rattle.calendar.specs.Room.{CoveredDay, CoveredMonths, listedAt, listing};
+use asked::CalendarAsked;
+use asked::MonthAsked;
+use asked::YearAsked;
 use months::Calendar;
 use months::Span;
-
-// The calendar that a number names, or the refusal.
-enum CalendarAsked {
-    Known(Calendar),
-    Refused(u8),
-}
-
-// The covered year that two numbers name, or the refusal.
-enum YearAsked {
-    Covered(Calendar, u16),
-    Refused(u8),
-}
-
-// The month that a date names, or the refusal.
-enum MonthAsked {
-    Found(Calendar, Span),
-    Refused(u8),
-}
 
 // A day number, or the refusal.
 pub enum DayAnswer {
@@ -78,95 +64,13 @@ struct Listing {
     months: [Month; 13],
 }
 
-fn asked_calendar(number: u64) -> CalendarAsked
-    ensures { λ r. ⌜ calendarMeans r ≡ calendarOf number ⌝ }
-{
-    if number == 1 {
-        return CalendarAsked::Known(Calendar::Senmyo);
-    }
-    if number == 2 {
-        return CalendarAsked::Known(Calendar::Genka);
-    }
-    CalendarAsked::Refused(1)
-}
-
-fn calendar_refusal(asked: CalendarAsked) -> u8
-    ensures { λ r. ⌜ r ≡ refusalIn (calendarMeans asked) ⌝ }
-{
-    match asked {
-        CalendarAsked::Known(_) => 0,
-        CalendarAsked::Refused(number) => number,
-    }
-}
-
-fn asked_year(calendar: u64, year: u64) -> YearAsked
-    ensures { λ r. ⌜ yearMeans r ≡ yearAsked calendar year ⌝ }
-{
-    let asked = asked_calendar(calendar);
-    let CalendarAsked::Known(known) = asked else {
-        return YearAsked::Refused(calendar_refusal(asked));
-    };
-    let years = months::covered_years(known);
-    if year < years.first as u64 {
-        return YearAsked::Refused(2);
-    }
-    if (years.last as u64) < year {
-        return YearAsked::Refused(2);
-    }
-    YearAsked::Covered(known, year as u16)
-}
-
-fn year_refusal(asked: YearAsked) -> u8
-    ensures { λ r. ⌜ r ≡ refusalIn (yearMeans asked) ⌝ }
-{
-    match asked {
-        YearAsked::Covered(_, _) => 0,
-        YearAsked::Refused(number) => number,
-    }
-}
-
-// Month `number` of a year is the one that has its mid-term of that number; its leap month, if it has one, is the next.
-fn asked_month(calendar: u64, year: u64, number: u64, leap: bool) -> MonthAsked
-    ensures { λ r. ⌜ monthMeans r ≡ monthAsked calendar year number leap ⌝ }
-{
-    let asked = asked_year(calendar, year);
-    let YearAsked::Covered(known, covered) = asked else {
-        return MonthAsked::Refused(year_refusal(asked));
-    };
-    if number < 1 {
-        return MonthAsked::Refused(3);
-    }
-    if 12 < number {
-        return MonthAsked::Refused(3);
-    }
-    let regular = months::month_with(known, covered, (number - 1) as u8);
-    if leap {
-        let after = months::month_after(known, regular);
-        let name = months::name_of(known, after);
-        if name.leap {
-            return MonthAsked::Found(known, after);
-        }
-        return MonthAsked::Refused(3);
-    }
-    MonthAsked::Found(known, regular)
-}
-
-fn month_refusal(asked: MonthAsked) -> u8
-    ensures { λ r. ⌜ r ≡ refusalIn (monthMeans asked) ⌝ }
-{
-    match asked {
-        MonthAsked::Found(_, _) => 0,
-        MonthAsked::Refused(number) => number,
-    }
-}
-
 // The day of a date.
 pub fn day_of(calendar: u64, year: u64, month: u64, leap: bool, day: u64) -> DayAnswer
     ensures { λ r. ⌜ dayMeans r ≡ dayOf calendar year month leap day ⌝ }
 {
-    let asked = asked_month(calendar, year, month, leap);
+    let asked = asked::asked_month(calendar, year, month, leap);
     let MonthAsked::Found(known, span) = asked else {
-        return DayAnswer::Refused(month_refusal(asked));
+        return DayAnswer::Refused(asked::month_refusal(asked));
     };
     if day < 1 {
         return DayAnswer::Refused(4);
@@ -211,9 +115,9 @@ fn date_in(calendar: Calendar, day: u32) -> Date
 pub fn date_of(calendar: u64, day: u64) -> DateAnswer
     ensures { λ r. ⌜ dateMeans r ≡ dateOf calendar day ⌝ }
 {
-    let asked = asked_calendar(calendar);
+    let asked = asked::asked_calendar(calendar);
     let CalendarAsked::Known(known) = asked else {
-        return DateAnswer::Refused(calendar_refusal(asked));
+        return DateAnswer::Refused(asked::calendar_refusal(asked));
     };
     let days = covered_days(known);
     if day < days.first {
@@ -327,10 +231,10 @@ fn year_in(calendar: Calendar, year: u16) -> Year
 pub fn year_of(calendar: u64, year: u64) -> YearAnswer
     ensures { λ r. ⌜ r ≡ yearAnswer (yearOf calendar year) ⌝ }
 {
-    let asked = asked_year(calendar, year);
+    let asked = asked::asked_year(calendar, year);
     let YearAsked::Covered(known, covered) = asked else {
         return YearAnswer {
-            refusal: year_refusal(asked),
+            refusal: asked::year_refusal(asked),
             year: no_year(),
         };
     };

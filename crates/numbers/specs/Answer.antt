@@ -15,3 +15,8 @@ need false refusal answer = refused refusal
 abbrev pub then : {A B : Type 0} → Answer A → (A → Answer B) → Answer B
 then (given a) step = step a
 then (refused refusal) step = refused refusal
+
+-- the number of a refusal, and 0 of any other answer
+abbrev pub refusalIn : {A : Type 0} → Answer A → ℕ
+refusalIn (given a) = 0
+refusalIn (refused n) = n

@@ -2,11 +2,11 @@
 use mathlib.Core.Path.{_≡_, sym, ap}
 use mathlib.Core.List.{List}
 use Prim.Native.Nat.{ℕ}
-use Rattle.numbers.specs.Answer.{Answer, given, refused, then}
+use Rattle.numbers.specs.Answer.{Answer, given, refused, then, refusalIn}
 use Rattle.calendar.specs.declared.Year.{Year}
 use Rattle.calendar.specs.declared.YearAnswer.{YearAnswer}
 use Rattle.calendar.specs.Years.{yearOf}
-use Rattle.calendar.specs.Answers.{yearAnswer, refusalIn}
+use Rattle.calendar.specs.Answers.{yearAnswer}
 use Rattle.line.specs.declared.Line.{Line}
 use Rattle.line.specs.Line.{lineOf}
 use Rattle.paper.specs.Paper.{yearRefusal, answerRefusal}

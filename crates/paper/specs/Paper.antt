@@ -1,9 +1,8 @@
 -- With what a printed answer refuses; 0 where it prints a year.
 use mathlib.Core.List.{List}
 use Prim.Native.Nat.{ℕ}
-use Rattle.numbers.specs.Answer.{then}
+use Rattle.numbers.specs.Answer.{then, refusalIn}
 use Rattle.calendar.specs.Years.{yearOf}
-use Rattle.calendar.specs.Answers.{refusalIn}
 use Rattle.line.specs.Line.{lineOf}
 
 -- of a year

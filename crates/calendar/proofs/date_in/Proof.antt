@@ -5,8 +5,10 @@ use borrow.Author.Needs.{needs}
 use Rattle.numbers.proofs.Spans.{span-holds}
 use Rattle.months.specs.Rules.{rulesOf}
 use Rattle.months.proofs.Calendars.{steady}
-use Rattle.calendar.specs.Room.{CoveredDay, CoveredSpan}
-use Rattle.calendar.proofs.Covered.{SpanDays, span-days, day-span}
+use Rattle.asked.specs.Room.{CoveredSpan}
+use Rattle.asked.proofs.Covered.{SpanDays, span-days}
+use Rattle.calendar.specs.Room.{CoveredDay}
+use Rattle.calendar.proofs.Covered.{day-span}
 use Rattle.calendar.proofs.date_in.Statement.{statement}
 use Rattle.calendar.proofs.date_in.Tie as tie
 

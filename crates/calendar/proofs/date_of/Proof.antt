@@ -3,11 +3,12 @@ use mathlib.Core.Path.{_≡_, sym, ap, _∙_}
 use Prim.Native.Nat.{_+_, _<_, _^_}
 use native.Mathlib.Omega.{arith}
 use borrow.Author.Needs.{needs}
-use Rattle.numbers.specs.Answer.{given}
+use Rattle.numbers.specs.Answer.{given, refusalIn}
 use Rattle.months.specs.Rules.{rulesOf}
 use Rattle.months.proofs.CoveredYears.{edges}
-use Rattle.calendar.specs.Answers.{calendarMeans, refusalIn}
-use Rattle.calendar.specs.Room.{calendarOf, CoveredDay}
+use Rattle.asked.specs.Answers.{calendarMeans}
+use Rattle.asked.specs.Asked.{calendarOf}
+use Rattle.calendar.specs.Room.{CoveredDay}
 use Rattle.calendar.proofs.Steps.{date-refused, day-early, day-late, day-covered}
 use Rattle.calendar.proofs.date_of.Statement.{statement}
 use Rattle.calendar.proofs.date_of.Tie as tie

@@ -2,12 +2,12 @@
 use mathlib.Core.Path.{_≡_, sym, ap, _∙_}
 use native.Mathlib.Omega.{arith}
 use borrow.Author.Needs.{needs}
-use Rattle.numbers.specs.Answer.{given}
+use Rattle.numbers.specs.Answer.{given, refusalIn}
 use Rattle.months.specs.Rules.{rulesOf}
-use Rattle.calendar.specs.Answers.{monthMeans, refusalIn}
-use Rattle.calendar.specs.Room.{monthAsked}
+use Rattle.asked.specs.Answers.{monthMeans}
+use Rattle.asked.specs.Asked.{monthAsked}
+use Rattle.asked.proofs.Covered.{SpanDays, span-days, asked-span}
 use Rattle.calendar.proofs.Steps.{day-refused, day-0, day-past, day-there}
-use Rattle.calendar.proofs.Covered.{SpanDays, span-days, asked-span}
 use Rattle.calendar.proofs.day_of.Statement.{statement}
 use Rattle.calendar.proofs.day_of.Tie as tie
 

@@ -5,10 +5,11 @@ use native.Mathlib.Omega.{arith}
 use borrow.Author.Needs.{needs}
 use Rattle.months.specs.Rules.{rulesOf}
 use Rattle.months.specs.Months.{spanned}
+use Rattle.asked.specs.Room.{CoveredSpan}
+use Rattle.asked.proofs.Covered.{span-days}
 use Rattle.calendar.specs.Years.{places, leapNumber}
-use Rattle.calendar.specs.Room.{CoveredSpan, CoveredMonths, listing}
+use Rattle.calendar.specs.Room.{CoveredMonths, listing}
 use Rattle.calendar.proofs.Places.{next-listed}
-use Rattle.calendar.proofs.Covered.{span-days}
 use Rattle.calendar.proofs.list_from.Statement.{statement}
 use Rattle.calendar.proofs.list_from.Tie as tie
 

@@ -4,8 +4,8 @@ use Prim.Native.Nat.{_+_}
 use native.Mathlib.Omega.{arith}
 use borrow.Author.Needs.{needs}
 use Rattle.months.specs.Rules.{rulesOf}
-use Rattle.calendar.specs.Room.{CoveredSpan}
-use Rattle.calendar.proofs.Covered.{SpanDays, span-days}
+use Rattle.asked.specs.Room.{CoveredSpan}
+use Rattle.asked.proofs.Covered.{SpanDays, span-days}
 use Rattle.calendar.proofs.listed_month.Statement.{statement}
 use Rattle.calendar.proofs.listed_month.Tie as tie
 

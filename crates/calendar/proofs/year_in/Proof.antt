@@ -8,8 +8,8 @@ use Rattle.months.specs.Months.{spanned, firstMonth}
 use Rattle.months.proofs.FirstMonths.{first-with, next-with}
 use Rattle.months.proofs.Calendars.{steady}
 use Rattle.months.proofs.CoveredYears.{after-first, before-last}
+use Rattle.asked.specs.Room.{CoveredYear}
 use Rattle.calendar.specs.Years.{yearIn}
-use Rattle.calendar.specs.Room.{CoveredYear}
 use Rattle.calendar.proofs.Covered.{YearRoom, year-room}
 use Rattle.calendar.proofs.year_in.Statement.{statement}
 use Rattle.calendar.proofs.year_in.Tie as tie

@@ -1,11 +1,12 @@
 -- `calendar::year_of` meets its contract: a year that is refused is all zeros, and any other is worked out.
 use mathlib.Core.Path.{_≡_, sym, ap, _∙_}
 use borrow.Author.Needs.{needs}
-use Rattle.numbers.specs.Answer.{given}
-use Rattle.calendar.specs.Answers.{yearMeans, yearAnswer, refusalIn}
-use Rattle.calendar.specs.Room.{yearAsked}
+use Rattle.numbers.specs.Answer.{given, refusalIn}
+use Rattle.asked.specs.Answers.{yearMeans}
+use Rattle.asked.specs.Asked.{yearAsked}
+use Rattle.asked.proofs.Covered.{asked-covered}
+use Rattle.calendar.specs.Answers.{yearAnswer}
 use Rattle.calendar.proofs.Steps.{months-refused, months-given}
-use Rattle.calendar.proofs.Covered.{asked-covered}
 use Rattle.calendar.proofs.year_of.Statement.{statement}
 use Rattle.calendar.proofs.year_of.Tie as tie
 

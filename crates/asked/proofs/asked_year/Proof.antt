@@ -1,15 +1,14 @@
--- `calendar::asked_year` meets its contract: after the calendar, it asks for the first and the last covered year.
+-- `asked::asked_year` meets its contract: after the calendar, it asks for the first and the last covered year.
 use mathlib.Core.Path.{_≡_, sym, ap, _∙_}
 use borrow.Author.Needs.{needs}
-use Rattle.numbers.specs.Answer.{given, need}
+use Rattle.numbers.specs.Answer.{given, need, refusalIn}
 use Rattle.numbers.proofs.Answers.{fails, holds}
 use Rattle.months.specs.Rules.{rulesOf}
-use Rattle.calendar.specs.Dates.{isCovered}
-use Rattle.calendar.specs.Answers.{calendarMeans, refusalIn}
-use Rattle.calendar.specs.Room.{yearAsked}
-use Rattle.calendar.proofs.Steps.{year-refused, year-known, too-early, too-late, in-time}
-use Rattle.calendar.proofs.asked_year.Statement.{statement}
-use Rattle.calendar.proofs.asked_year.Tie as tie
+use Rattle.asked.specs.Answers.{calendarMeans}
+use Rattle.asked.proofs.Steps.{year-refused, year-known, too-early, too-late, in-time}
+use Rattle.asked.proofs.asked_year.Statement.{statement}
+use Rattle.asked.specs.Asked.{isCovered, yearAsked}
+use Rattle.asked.proofs.asked_year.Tie as tie
 
 asked-calendar-requires : tie.Need-asked-calendar-requires
 asked-calendar-requires c κs = search needs

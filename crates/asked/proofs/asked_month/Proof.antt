@@ -1,18 +1,18 @@
--- `calendar::asked_month` meets its contract: month `number` has the mid-term of that number, and a leap month is looked for behind it.
+-- `asked::asked_month` meets its contract: month `number` has the mid-term of that number, and a leap month is looked for behind it.
 use mathlib.Core.Path.{_≡_, refl, sym, ap, _∙_}
 use Prim.Native.Nat.{ℕ, _+_}
 use native.Mathlib.Omega.{arith}
 use borrow.Author.Needs.{needs}
-use Rattle.numbers.specs.Answer.{given}
+use Rattle.numbers.specs.Answer.{given, refusalIn}
 use Rattle.months.specs.Rules.{Rules, rulesOf}
 use Rattle.months.specs.Months.{isLeap}
-use Rattle.calendar.specs.Dates.{regularMonth}
-use Rattle.calendar.specs.Answers.{yearMeans, refusalIn}
-use Rattle.calendar.specs.Room.{yearAsked, CoveredYear}
-use Rattle.calendar.proofs.Steps.{month-refused, month-0, month-13, regular-found, leap-found, leap-lacking}
-use Rattle.calendar.proofs.Covered.{asked-covered, regular-small}
-use Rattle.calendar.proofs.asked_month.Statement.{statement}
-use Rattle.calendar.proofs.asked_month.Tie as tie
+use Rattle.asked.specs.Answers.{yearMeans}
+use Rattle.asked.specs.Room.{CoveredYear}
+use Rattle.asked.proofs.Steps.{month-refused, month-0, month-13, regular-found, leap-found, leap-lacking}
+use Rattle.asked.proofs.Covered.{asked-covered, regular-small}
+use Rattle.asked.proofs.asked_month.Statement.{statement}
+use Rattle.asked.specs.Asked.{regularMonth, yearAsked}
+use Rattle.asked.proofs.asked_month.Tie as tie
 
 asked-year-requires : tie.Need-asked-year-requires
 asked-year-requires c κs = search needs

@@ -1,8 +1,8 @@
--- `calendar::asked_calendar` meets its contract: it asks for each number in turn.
+-- `asked::asked_calendar` meets its contract: it asks for each number in turn.
 use mathlib.Core.Path.{sym}
-use Rattle.calendar.proofs.Steps.{senmyo-known, genka-known, none-known}
-use Rattle.calendar.proofs.asked_calendar.Statement.{statement}
-use Rattle.calendar.proofs.asked_calendar.Tie as tie
+use Rattle.asked.proofs.Steps.{senmyo-known, genka-known, none-known}
+use Rattle.asked.proofs.asked_calendar.Statement.{statement}
+use Rattle.asked.proofs.asked_calendar.Tie as tie
 
 returns : tie.Need-returns
 returns c = sym (senmyo-known _ (c .if1 .taken))

@@ -12,7 +12,7 @@ use Rattle.months.specs.Year.{OfYear, Numbered, Thirteen, TwelveOrThirteen, twe
 use Rattle.months.proofs.Steady.{Steady}
 use Rattle.months.proofs.FirstMonths.{month-1-not-leap}
 use Rattle.months.proofs.Terms.{number-of-leap, number-of-last}
-use Rattle.calendar.specs.Dates.{regularMonth, monthNamed, hasMonth}
+use Rattle.asked.specs.Asked.{regularMonth, monthNamed, hasMonth}
 
 -- month k of year y has this number, and is leap or not
 pub record Named (r : Rules) (y m : ℕ) (leap : Bool) (k : ℕ) : Type 0 where
