@@ -1,16 +1,17 @@
 -- Laws of `floor` and `nearest`: they are what their names say, they keep the order, and along a line they stay between the ends.
-use mathlib.Core.Path.{_≡_, refl}
+use mathlib.Core.Path.{_≡_, refl, sym}
 use mathlib.Core.List.{[], _∷_, map}
 use mathlib.Core.Bool.{Bool, _&&_}
-use Prim.Native.Nat.{ℕ, suc, _+_, _*_, _/_, _<_, _≤_}
-use native.Mathlib.Nat.{add-mul, suc-mul, mul-le-mul-left, one-mul, zero-mul, mod-lt, div-add-mod', div-mul-le-self, le-div-iff-mul-le, le-trans}
+use Prim.Native.Nat.{ℕ, suc, _+_, _*_, _/_, _%_, _<_, _≤_}
+use native.Mathlib.Nat.{add-mul, suc-mul, mul-le-mul-left, one-mul, zero-mul, mod-lt, div-add-mod', div-mul-le-self, le-div-iff-mul-le, le-trans, mod-eq-of-lt, add-mod-left}
 use native.Mathlib.Omega.{arith}
 use lib.Dec.{T, leb→le, le→leb}
 use lib.IntN.{ℤ, pos, negsuc, _+ℤ_, _*ℤ_}
 use lib.Signed.{_≤ℤ_, leZ, leZ-yes}
 use mir.Facts.{and-yes}
 use Rattle.numbers.specs.Sign.{plus, minus}
-use Rattle.numbers.specs.Rounding.{floor, nearest}
+use Rattle.numbers.specs.Rounding.{floor, nearest, modulo}
+use Rattle.numbers.specs.Difference.{Is, Difference}
 use Rattle.numbers.proofs.Difference.{is-pos, is-neg, is-add, is-mul, is-parts, is-sub}
 use Rattle.numbers.proofs.Order.{is-le, le-is, ≤ℤ-trans}
 
@@ -87,3 +88,21 @@ between-ends low high a (negsuc s) end d p first last r h =
       from = ≤ℤ-trans (last .from) (nearest-mono d p (is-le far near (omega (arith, mul-le-mul-left (suc s) h))));
       to = ≤ℤ-trans (nearest-mono d p (is-le near (is-parts a) (omega arith))) (first .to);
     }
+
+modulo-of : (z : ℤ) (n d : ℕ) → Difference z n d → modulo z d ≡ n % d
+unfolding modulo
+modulo-of (pos m) n d e = rw e (sym (add-mod-left d m))
+modulo-of (negsuc m) n d e = rw (mod-eq-of-lt {n = m} {m = d} (omega arith), mod-eq-of-lt {n = n} {m = d} (omega arith)) (omega arith)
+
+-- a number that is n less d leaves what n does
+pub modulo-told : {z : ℤ} {n d : ℕ} → Is z n d → modulo z d ≡ n % d
+modulo-told {z} {n} {d} h = modulo-of z n d (h .difference)
+
+modulo-under : (z : ℤ) (d : ℕ) → 0 < d → modulo z d < d
+unfolding modulo
+modulo-under (pos n) d p = mod-lt n p
+modulo-under (negsuc n) d p = omega (arith, p)
+
+-- .. and less than d
+pub modulo-below : (z : ℤ) {d : ℕ} → 0 < d → modulo z d < d
+modulo-below z {d} p = modulo-under z d p

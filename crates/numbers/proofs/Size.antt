@@ -10,7 +10,7 @@ use mir.Val.{SFits}
 use Rattle.numbers.specs.Sign.{whole, minus}
 use Rattle.numbers.specs.Difference.{Difference}
 use Rattle.numbers.proofs.Difference.{is-pos, is-neg, is-add, is-parts}
-use Rattle.numbers.proofs.Order.{le-is}
+use Rattle.numbers.proofs.Order.{is-le, le-is}
 
 -- z lies from −n to n
 pub record Small (z : ℤ) (n : ℕ) : Type 0 where
@@ -78,3 +78,10 @@ between (negsuc n) a b low high = omega (arith, le-is (is-neg (is-pos a)) (is-ne
 
 pub small-between : {z : ℤ} (a b : ℕ) → minus a ≤ℤ z → z ≤ℤ pos b → Small z (a + b)
 small-between {z} a b low high = record { size = between z a b low high }
+
+-- .. and back
+pub small-low : {z : ℤ} {n : ℕ} → Small z n → minus n ≤ℤ z
+small-low {z} {n} s = is-le (is-neg (is-pos n)) (is-parts z) (omega (arith, size-parts z, s .size))
+
+pub small-high : {z : ℤ} {n : ℕ} → Small z n → z ≤ℤ pos n
+small-high {z} {n} s = is-le (is-parts z) (is-pos n) (omega (arith, size-parts z, s .size))

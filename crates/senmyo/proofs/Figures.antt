@@ -5,9 +5,13 @@ use mathlib.Core.List.{List, [], _∷_, map}
 use Prim.Native.Nat.{ℕ, _+_, _-_, _%_}
 use lib.Dec.{leb, ltb}
 use Rattle.numbers.specs.Sign.{plus, minus}
+use Rattle.numbers.specs.Rounding.{modulo}
 use Rattle.units.specs.Units.{fen, wholeDays, fenOfDay}
+use Rattle.eclipse.specs.declared.Side.the-variants.{Yin}
+use Rattle.eclipse.specs.Eclipse.{nodePlace, distanceOf, nodeOf}
 use Rattle.senmyo.specs.Means.{solstice, dayZero, midTermDay, rainWater, meanNewMoon}
 use Rattle.senmyo.specs.Phases.{corrections, newMoon, newMoonDay, fullMoon, fullMoonFen}
+use Rattle.senmyo.specs.FullMoons.{nodePlaceAt, nodeAt}
 use Rattle.senmyo.proofs.Worked.{sunAt, moonAt, dayAt}
 
 -- the fen of the day of true new moon k, and by how many days it moves
@@ -71,3 +75,8 @@ month-5-of-1522 = refl
 full-moon-1522 : fenOfDay (fullMoonFen (first-1522 + 1)) ≡ fen 6215
 unfolding sunAt moonAt corrections fullMoon
 full-moon-1522 = refl
+
+-- its distance from the node is 2241, and it is yin
+node-1522 : nodeAt (first-1522 + 1) ≡ record { side = Yin; distance = fen 2241 }
+unfolding sunAt moonAt nodePlaceAt nodePlace modulo nodeOf distanceOf
+node-1522 = refl

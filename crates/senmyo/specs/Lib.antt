@@ -1,3 +1,4 @@
 pub mod Means
 pub mod Phases
+pub mod FullMoons
 pub mod Room

@@ -1,3 +1,5 @@
+use eclipse::Node;
+use eclipse::NodeSecond;
 pub use moon::moon_of;
 pub use sun::sun_of;
 use units::BYO_OF_DAY;
@@ -11,6 +13,7 @@ ghost use lib.IntN.{pos, _+ℤ_, _*ℤ_};
 ghost use Rattle.numbers.specs.Spans.{Holds};
 ghost use Rattle.senmyo.specs.Means.{midTerm, midTermDay, rainWater, meanNewMoon, meanFullMoon};
 ghost use Rattle.senmyo.specs.Phases.{corrections, newMoon, advancedDay, newMoonDay, fullMoon, fullMoonFen};
+ghost use Rattle.senmyo.specs.FullMoons.{nodePlaceAt, nodeAt};
 ghost use Rattle.senmyo.specs.Room.{meanMonth, Movable};
 
 // From a mid-term to the next, in byo: two terms of 127,835 fen 5 byo.
@@ -126,4 +129,20 @@ pub fn full_moon_fen(number: u32) -> Fen
     ensures { λ r. ⌜ r ≡ fullMoonFen number ⌝ }
 {
     units::byo_to_fen(full_moon(number))
+}
+
+// The place from the node at that full moon, by its mean moment and the corrections taken there.
+pub fn node_place(number: u32) -> NodeSecond
+    ensures { λ r. ⌜ r ≡ nodePlaceAt number ⌝ }
+{
+    let mean = mean_full_moon(number);
+    let moon = moon_of(units::byo_to_anomaly_seconds(mean));
+    eclipse::node_place(mean, sun_of(mean), moon)
+}
+
+// The side of that place, and its distance from the node.
+pub fn node(number: u32) -> Node
+    ensures { λ r. ⌜ r ≡ nodeAt number ⌝ }
+{
+    eclipse::node_of(node_place(number))
 }

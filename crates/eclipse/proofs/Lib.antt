@@ -1,0 +1,3 @@
+pub mod NodeLaws
+pub mod OneAnswer
+pub mod Figures

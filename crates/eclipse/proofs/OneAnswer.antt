@@ -1,0 +1,22 @@
+-- Two grades that mean the same are one, so that a contract that says what a grade means fixes it.
+use mathlib.Core.Path.{_≡_, refl, sym, ap, _∙_}
+use Rattle.eclipse.specs.declared.Share.{Share}
+use Rattle.eclipse.specs.declared.Grade.{Grade}
+use Rattle.eclipse.specs.declared.Grade.the-variants.{None, Total, Partial}
+use Rattle.eclipse.specs.Eclipse.{none, total, partial, Graded}
+use Rattle.eclipse.specs.Answers.{gradeMeans}
+
+
+abbrev shareIn : Graded → Share
+shareIn g = record { parts = g .parts; remainder = g .remainder; strong = g .strong }
+
+abbrev gradeIn : Graded → Grade
+gradeIn g = elim (g .kind) [ none ↦ None | total ↦ Total | partial ↦ Partial (shareIn g) ]
+
+back : (x : Grade) → gradeIn (gradeMeans x) ≡ x
+back None = refl
+back Total = refl
+back (Partial s) = refl
+
+pub one-grade : (x y : Grade) → gradeMeans x ≡ gradeMeans y → x ≡ y
+one-grade x y h = sym (back x) ∙ ap gradeIn h ∙ back y

@@ -1,0 +1,3 @@
+pub mod Eclipse
+pub mod Answers
+pub mod Room

@@ -1,0 +1,123 @@
+ghost use mathlib.Core.Path.{_≡_};
+ghost use Prim.Native.Nat.{_*_, _<_, _≤_, _^_};
+ghost use lib.IntN.{natAbs};
+ghost use Rattle.eclipse.specs.Eclipse.{period, byoToNodeSeconds, moonShare, half, nodePlace, distanceOf, nodeOf, gradeOf};
+ghost use Rattle.eclipse.specs.Answers.{gradeMeans};
+ghost use Rattle.eclipse.specs.Room.{Placeable};
+use units::BYO_OF_FEN;
+use units::Byo;
+use units::Fen;
+
+const NODE_SECONDS_OF_FEN: u64 = 10_000;
+
+const NODE_SECONDS_OF_BYO: u64 = NODE_SECONDS_OF_FEN / BYO_OF_FEN;
+
+// The node's period, 228,582.6512 fen, and half of it.
+const PERIOD: u64 = 2_285_826_512;
+
+const HALF: u64 = PERIOD / 2;
+
+// From this distance on there is no eclipse; up to `TOTAL` it is total.
+const LIMIT: u64 = 9737;
+
+const TOTAL: u64 = 2147;
+
+// 1/10,000 fen.
+pub struct NodeSecond(pub u64);
+
+pub enum Side {
+    Yang,
+    Yin,
+}
+
+// Where the full moon stands from the node.
+pub struct Node {
+    pub side: Side,
+    pub distance: Fen,
+}
+
+// How much of the Moon is eclipsed: parts of fifteen, and the remainder, which is strong or weak.
+pub struct Share {
+    pub parts: u8,
+    pub remainder: u16,
+    pub strong: bool,
+}
+
+pub enum Grade {
+    None,
+    Total,
+    Partial(Share),
+}
+
+pub fn byo_to_node_seconds(b: Byo) -> NodeSecond
+    requires { ⌜ b .0 * 1250 < 2 ^ 64 ⌝ }
+    ensures { λ r. ⌜ r ≡ byoToNodeSeconds b ⌝ }
+{
+    NodeSecond(b.0 * NODE_SECONDS_OF_BYO)
+}
+
+fn moon_share(moon: i64) -> i64
+    requires { ⌜ natAbs moon ≤ 10000 ⌝ }
+    ensures { λ r. ⌜ r ≡ moonShare moon ⌝ }
+{
+    numbers::nearest_of(moon * 202, 2573)
+}
+
+// The place from the node at a mean moment, with the corrections taken at it.
+pub fn node_place(mean: Byo, sun: i64, moon: i64) -> NodeSecond
+    requires { ⌜ Placeable mean sun moon ⌝ }
+    ensures { λ r. ⌜ r ≡ nodePlace mean sun moon ⌝ }
+{
+    let past = byo_to_node_seconds(mean).0 % PERIOD;
+    let correction = sun + moon_share(moon);
+    NodeSecond(((past + PERIOD) as i64 + correction * (NODE_SECONDS_OF_FEN as i64)) as u64 % PERIOD)
+}
+
+// The distance from the nearer end of the half in which a place is.
+fn distance_of(in_half: u64) -> Fen
+    requires { ⌜ in_half ≤ half .0 ⌝ }
+    ensures { λ r. ⌜ r ≡ distanceOf in_half ⌝ }
+{
+    let rest = HALF - in_half;
+    if in_half < rest {
+        Fen((in_half + NODE_SECONDS_OF_FEN / 2) / NODE_SECONDS_OF_FEN)
+    } else {
+        Fen((rest + NODE_SECONDS_OF_FEN / 2) / NODE_SECONDS_OF_FEN)
+    }
+}
+
+// The side and the distance of a place.
+pub fn node_of(place: NodeSecond) -> Node
+    requires { ⌜ place .0 < period .0 ⌝ }
+    ensures { λ r. ⌜ r ≡ nodeOf place ⌝ }
+{
+    if HALF < place.0 {
+        Node {
+            side: Side::Yin,
+            distance: distance_of(place.0 - HALF),
+        }
+    } else {
+        Node {
+            side: Side::Yang,
+            distance: distance_of(place.0),
+        }
+    }
+}
+
+// What a distance says of the eclipse.
+pub fn grade_of(distance: Fen) -> Grade
+    ensures { λ r. ⌜ gradeMeans r ≡ gradeOf distance ⌝ }
+{
+    if LIMIT <= distance.0 {
+        return Grade::None;
+    }
+    if distance.0 <= TOTAL {
+        return Grade::Total;
+    }
+    let short = LIMIT - distance.0;
+    Grade::Partial(Share {
+        parts: (short / 506) as u8,
+        remainder: (short % 506) as u16,
+        strong: 253 <= short % 506,
+    })
+}
