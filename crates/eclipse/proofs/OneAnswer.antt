@@ -6,7 +6,6 @@ use Rattle.eclipse.specs.declared.Grade.the-variants.{None, Total, Parti
 use Rattle.eclipse.specs.Eclipse.{none, total, partial, Graded}
 use Rattle.eclipse.specs.Answers.{gradeMeans}
 
-
 abbrev shareIn : Graded → Share
 shareIn g = record { parts = g .parts; remainder = g .remainder; strong = g .strong }
 

@@ -1,9 +1,13 @@
--- Genka, counted from its origin (01, "Months and leap" and the last sentence of "Units"; 001).
+-- Genka, counted from its origin (01, "Months and leap", the last sentence of "Units", and "Instants for the chart"; 001).
 use Prim.Native.Nat.{ℕ, _+_, _*_, _/_}
 use Rattle.genka.specs.declared.Part.{Part}
+use Rattle.genka.specs.declared.HalfPart.{HalfPart}
 
 abbrev pub part : ℕ → Part
 part n = record { 0 = n }
+
+abbrev pub halfPart : ℕ → HalfPart
+halfPart n = record { 0 = n }
 
 -- a day has 752 parts
 abbrev pub dayParts : ℕ
@@ -16,6 +20,10 @@ newMoon j = part (22207 * j)
 -- .. and its day, with no correction and no advance, in whole days from the origin
 abbrev pub newMoonDay : ℕ → ℕ
 newMoonDay j = newMoon j .0 / dayParts
+
+-- the full moon is half a spacing later: of 22,207 parts, so many half parts
+abbrev pub fullMoon : ℕ → HalfPart
+fullMoon j = halfPart (2 * newMoon j .0 + newMoon 1 .0)
 
 -- mid-terms are 222,070/7,296 days apart: the day of mid-term j
 abbrev pub midTermDay : ℕ → ℕ

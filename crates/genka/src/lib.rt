@@ -1,12 +1,17 @@
 ghost use mathlib.Core.Path.{_≡_};
 ghost use Rattle.numbers.specs.Spans.{Holds};
-ghost use Rattle.genka.specs.Genka.{newMoon, newMoonDay, midTermDay, rainWater};
+ghost use Rattle.genka.specs.Genka.{newMoon, newMoonDay, fullMoon, midTermDay, rainWater};
 ghost use Rattle.genka.specs.Room.{meanMonth};
 
 // 1/752 of a day.
 pub struct Part(pub u64);
 
 const PARTS_OF_DAY: u64 = 752;
+
+// Half a part.
+pub struct HalfPart(pub u64);
+
+pub const HALF_PARTS_OF_DAY: u64 = 2 * PARTS_OF_DAY;
 
 // From a new moon to the next, in parts.
 const MONTH: u64 = 22207;
@@ -28,6 +33,13 @@ pub fn new_moon_day(number: u32) -> u64
     ensures { λ r. ⌜ r ≡ newMoonDay number ⌝ }
 {
     new_moon(number).0 / PARTS_OF_DAY
+}
+
+// The full moon after new moon `number`, half a month later.
+pub fn full_moon(number: u32) -> HalfPart
+    ensures { λ r. ⌜ r ≡ fullMoon number ⌝ }
+{
+    HalfPart(2 * new_moon(number).0 + MONTH)
 }
 
 // The last new moon by the start of a day.

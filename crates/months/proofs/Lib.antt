@@ -6,3 +6,4 @@ pub mod Calendars
 pub mod FourteenYears
 pub mod Figures
 pub mod CoveredYears
+pub mod Moments

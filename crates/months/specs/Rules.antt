@@ -1,10 +1,12 @@
--- The two calendars as one thing: what "Months and leap" of 01 asks of a calendar, and what each of them gives. Days are whole days
+-- The two calendars as one thing: what "Months and leap" and "Instants for the chart" of 01 ask of a calendar, and what each of them gives. Days are whole days
 -- from the calendar's own origin.
-use Prim.Native.Nat.{ℕ, _-_}
+use Prim.Native.Nat.{ℕ, _-_, _*_}
+use Rattle.units.specs.Units.{dayFen}
 use Rattle.senmyo.specs.Means as senmyo-means
 use Rattle.senmyo.specs.Phases as senmyo-phases
 use Rattle.genka.specs.Genka as genka-means
 use Rattle.months.specs.declared.Calendar.{Calendar}
+use Rattle.months.specs.declared.Moment.{Moment}
 use Rattle.months.specs.declared.Calendar.the-variants.{Senmyo, Genka}
 
 pub record Rules : Type 0 where
@@ -21,8 +23,15 @@ pub record Rules : Type 0 where
   pub rainWater : ℕ → ℕ
   -- the whole days of day number 0
   pub dayZero : ℕ
+  -- new moon k, before any advance, and the full moon after it
+  pub newMoon : ℕ → Moment
+  pub fullMoon : ℕ → Moment
 
--- mid-term 0 is a solstice, of month 11
+-- a moment of so many units, of which a day has so many
+abbrev pub moment : ℕ → ℕ → Moment
+moment units ofDay = record { units = units; «of_day» = ofDay }
+
+-- mid-term 0 is a solstice, of month 11; moments are told in fen
 abbrev pub senmyo : Rules
 senmyo =
     record {
@@ -33,9 +42,11 @@ senmyo =
       zerothNumber = 11;
       rainWater = λ y. senmyo-means.rainWater y;
       dayZero = senmyo-means.dayZero;
+      newMoon = λ k. moment (senmyo-phases.newMoon k .0) dayFen;
+      fullMoon = λ k. moment (senmyo-phases.fullMoonFen k .0) dayFen;
     }
 
--- mid-term 0 is a Rain Water, of month 1
+-- mid-term 0 is a Rain Water, of month 1; moments are told in half parts
 abbrev pub genka : Rules
 genka =
     record {
@@ -46,6 +57,8 @@ genka =
       zerothNumber = 1;
       rainWater = λ y. genka-means.rainWater y;
       dayZero = genka-means.dayZero;
+      newMoon = λ k. moment (2 * genka-means.newMoon k .0) (2 * genka-means.dayParts);
+      fullMoon = λ k. moment (genka-means.fullMoon k .0) (2 * genka-means.dayParts);
     }
 
 -- the day number of a day

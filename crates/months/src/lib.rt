@@ -4,6 +4,8 @@ ghost use Rattle.numbers.specs.Spans.{Holds};
 ghost use Rattle.months.specs.Rules.{rulesOf};
 ghost use Rattle.months.specs.Months.{coveredYears, spanned, monthOf, monthWith, termNumber, lastTerm, nameOf, yearWith};
 ghost use Rattle.months.specs.Room.{meanMonth, Fitting, Covering};
+use genka::HALF_PARTS_OF_DAY;
+use units::FEN_OF_DAY;
 
 pub enum Calendar {
     Senmyo,
@@ -27,6 +29,12 @@ pub struct Span {
 pub struct Name {
     pub number: u8,
     pub leap: bool,
+}
+
+// A moment, in so many units from the calendar's origin, of which a day has so many.
+pub struct Moment {
+    pub units: u64,
+    pub of_day: u32,
 }
 
 // The covered years, from the first to the last.
@@ -191,4 +199,36 @@ pub fn year_with(calendar: Calendar, span: Span) -> u16
     let first = covered_years(calendar).first;
     let terms = last_term(calendar, span) - rain_water(calendar, first);
     first + (terms / 12) as u16
+}
+
+// The new moon of a month, before any advance.
+pub fn new_moon(calendar: Calendar, month: u32) -> Moment
+    ensures { λ r. ⌜ r ≡ rulesOf calendar .newMoon month ⌝ }
+{
+    match calendar {
+        Calendar::Senmyo => Moment {
+            units: senmyo::new_moon(month).0,
+            of_day: FEN_OF_DAY as u32,
+        },
+        Calendar::Genka => Moment {
+            units: 2 * genka::new_moon(month).0,
+            of_day: HALF_PARTS_OF_DAY as u32,
+        },
+    }
+}
+
+// The full moon of a month.
+pub fn full_moon(calendar: Calendar, month: u32) -> Moment
+    ensures { λ r. ⌜ r ≡ rulesOf calendar .fullMoon month ⌝ }
+{
+    match calendar {
+        Calendar::Senmyo => Moment {
+            units: senmyo::full_moon_fen(month).0,
+            of_day: FEN_OF_DAY as u32,
+        },
+        Calendar::Genka => Moment {
+            units: genka::full_moon(month).0,
+            of_day: HALF_PARTS_OF_DAY as u32,
+        },
+    }
 }

@@ -4,24 +4,24 @@ use mathlib.Core.Bool.{Bool, _&&_}
 use Prim.Native.Nat.{ℕ, _+_, _*_, _<_, _≤_}
 use native.Mathlib.Omega.{arith}
 use lib.Dec.{T, leb, leb→le, ltb→lt}
-use lib.IntN.{pos, _+ℤ_}
+use lib.IntN.{pos, _+ℤ_, _*ℤ_}
 use mir.Facts.{and-yes}
 use Rattle.numbers.specs.Difference.{Is}
 use Rattle.numbers.specs.Spans.{Takes}
-use Rattle.numbers.proofs.Difference.{is-pos, is-neg, is-add, is-parts, is-one}
+use Rattle.numbers.proofs.Difference.{is-pos, is-neg, is-add, is-mul, is-parts, is-one}
 use Rattle.numbers.proofs.Order.{le-is}
 use Rattle.numbers.proofs.Spans.{Growing}
 use Rattle.numbers.proofs.Tests.{everyTwo, at-each-two}
-use Rattle.units.specs.Units.{fenToByo, byoToAnomalySeconds}
+use Rattle.units.specs.Units.{fenToByo, wholeDays}
 use Rattle.sun.specs.Sun.{sunOf}
 use Rattle.moon.specs.Moon.{moonOf}
 use Rattle.sun.proofs.Bounds.{sun-bounds}
 use Rattle.moon.proofs.Rows.{moon-bounds}
-use Rattle.senmyo.specs.Means.{meanNewMoon, midTermDay, rainWater}
-use Rattle.senmyo.specs.Phases.{corrections, newMoon, newMoonDay}
+use Rattle.senmyo.specs.Means.{meanNewMoon, meanFullMoon, midTermDay, rainWater}
+use Rattle.senmyo.specs.Phases.{corrections, newMoon, newMoonDay, fullMoon, fullMoonFen}
 use Rattle.senmyo.specs.Room.{meanMonth}
 use Rattle.senmyo.proofs.Worked.{dayAt}
-use Rattle.senmyo.proofs.PhaseLaws.{new-moon-exact, advance-is-floor}
+use Rattle.senmyo.proofs.PhaseLaws.{corrections-between, new-moon-exact, full-moon-exact, advance-is-floor}
 
 -- the first month that is tested, one before month 1 of 822, and how many are, up to one after month 1 of 1685
 abbrev pub firstTested : ℕ
@@ -66,22 +66,17 @@ pub record NearMean (k : ℕ) : Type 0 where
   pub not-early : 248057 * k < 8400 * newMoonDay k + 11021
 
 pub near-mean : (k : ℕ) → NearMean k
-unfolding corrections
 near-mean k =
     let mean = fenToByo (meanNewMoon k) in
-    let anomaly = byoToAnomalySeconds mean in
-    let sun = is-parts (sunOf mean) in
-    let moon = is-parts (moonOf anomaly) in
+    let both = is-parts (corrections mean) in
     let told : Is (pos (248057 * k) +ℤ corrections mean) (newMoon k .0) 0 = rw (new-moon-exact k) at (is-pos (newMoon k .0)) in
-    let sum = is-one told (is-add (is-pos (248057 * k)) (is-add sun moon)) in
-    let sun-low = le-is (is-neg (is-pos 1526)) sun (sun-bounds mean .from) in
-    let sun-high = le-is sun (is-pos 1526) (sun-bounds mean .to) in
-    let moon-low = le-is (is-neg (is-pos 3195)) moon (moon-bounds anomaly .from) in
-    let moon-high = le-is moon (is-pos 3225) (moon-bounds anomaly .to) in
+    let sum = is-one told (is-add (is-pos (248057 * k)) both) in
+    let low = le-is (is-neg (is-pos 4721)) both (corrections-between mean .from) in
+    let high = le-is both (is-pos 4751) (corrections-between mean .to) in
     let day = advance-is-floor (newMoon k) in
     record {
-      not-late = omega (arith, sum, sun-high, moon-high, day);
-      not-early = omega (arith, sum, sun-low, moon-low, day);
+      not-late = omega (arith, sum, high, day);
+      not-early = omega (arith, sum, low, day);
     }
 
 pub new-moons-grow : Growing newMoonDay
@@ -100,3 +95,18 @@ opened-by-start d = omega (arith, near-mean (meanMonth d))
 
 pub second-opens-after : (d : ℕ) → d < newMoonDay (meanMonth d + 2)
 second-opens-after d = omega (arith, near-mean (meanMonth d + 2))
+
+-- the full moon falls on the 14th to the 17th day of its month
+pub record InMidst (k : ℕ) : Type 0 where
+  pub from : newMoonDay k + 13 ≤ wholeDays (fullMoonFen k)
+  pub to : wholeDays (fullMoonFen k) ≤ newMoonDay k + 16
+
+pub full-moon-day : (k : ℕ) → InMidst k
+full-moon-day k =
+    let mean = meanFullMoon k in
+    let both = is-parts (corrections mean) in
+    let told : Is (pos (mean .0) +ℤ corrections mean *ℤ pos 8) (fullMoon k .0) 0 = rw (full-moon-exact k) at (is-pos (fullMoon k .0)) in
+    let sum = is-one told (is-add (is-pos (mean .0)) (is-mul 8 both)) in
+    let low = le-is (is-neg (is-pos 4721)) both (corrections-between mean .from) in
+    let high = le-is both (is-pos 4751) (corrections-between mean .to) in
+    record { from = omega (arith, sum, low, near-mean k); to = omega (arith, sum, high, near-mean k) }

@@ -11,6 +11,7 @@ use Rattle.numbers.specs.Sign.{minus, whole}
 use Rattle.numbers.specs.Difference.{Is}
 use Rattle.numbers.proofs.Difference.{is-pos, is-neg, is-add, is-mul, is-parts, is-same, is-one, is-whole}
 use Rattle.numbers.proofs.Order.{is-le, le-is}
+use Rattle.numbers.proofs.Rounding.{Between}
 use Rattle.numbers.proofs.Size.{Small, small-between}
 use Rattle.units.specs.declared.Byo.{Byo}
 use Rattle.units.specs.declared.Fen.{Fen}
@@ -63,6 +64,22 @@ sun-small m = small-between 1526 1526 (sun-bounds m .from) (sun-bounds m .to)
 
 pub moon-small : (a : AnomalySecond) → Small (moonOf a) (3195 + 3225)
 moon-small a = small-between 3195 3225 (moon-bounds a .from) (moon-bounds a .to)
+
+-- both together lie between the sums of their bounds
+pub corrections-between : (m : Byo) → Between (minus 4721) (corrections m) (pos 4751)
+unfolding corrections
+corrections-between m =
+    let a = byoToAnomalySeconds m in
+    let sun = is-parts (sunOf m) in
+    let moon = is-parts (moonOf a) in
+    record {
+      from =
+          is-le (is-neg (is-pos 4721)) (is-add sun moon)
+          (omega (arith, le-is (is-neg (is-pos 1526)) sun (sun-bounds m .from), le-is (is-neg (is-pos 3195)) moon (moon-bounds a .from)));
+      to =
+          is-le (is-add sun moon) (is-pos 4751)
+          (omega (arith, le-is sun (is-pos 1526) (sun-bounds m .to), le-is moon (is-pos 3225) (moon-bounds a .to)));
+    }
 
 -- so a moment can be moved by the Sun's correction, and then by the Moon's
 pub sun-movable : (m : Byo) → m .0 < 2 ^ 57 → Movable m (sunOf m)

@@ -1,0 +1,20 @@
+-- `genka::full_moon` meets its contract: it adds half a month to the new moon.
+use native.Mathlib.Omega.{arith}
+use borrow.Author.Needs.{needs}
+use Rattle.genka.proofs.full_moon.Statement.{statement}
+use Rattle.genka.proofs.full_moon.Tie as tie
+
+new-moon-requires : tie.Need-new-moon-requires
+new-moon-requires c κs = search needs
+
+mul-t3 : tie.Need-mul-t3
+mul-t3 c = rw (c .before .new-moon .ensures) (omega arith)
+
+add-t4 : tie.Need-add-t4
+add-t4 c = rw (c .before .new-moon .ensures) (omega arith)
+
+returns : tie.Need-returns
+returns c = rw (c .before .new-moon .ensures)
+
+pub full-moon-spec : {M : Type 1} → statement M
+full-moon-spec = tie.close (tie.spec new-moon-requires mul-t3 add-t4 returns)
