@@ -14,7 +14,7 @@ use Rattle.months.specs.Months.{monthWith, termNumber, isLeap}
 use Rattle.months.proofs.Steady.{Steady}
 use Rattle.months.proofs.Terms.{name-told}
 use Rattle.months.proofs.Calendars.{senmyo-steady, genka-steady}
-use Rattle.months.proofs.Figures.{hasTest, has, first-1522, first-1523, first-643, first-644, senmyo-opens, senmyo-ends, genka-opens, genka-ends}
+use Rattle.months.proofs.Figures.{month-with, first-1522, first-1523, first-643, first-644, senmyo-opens, senmyo-ends, genka-opens, genka-ends}
 use Rattle.senmyo.specs.Means.{midTerm}
 use Rattle.senmyo.proofs.Worked.{dayAt}
 use Rattle.units.specs.Units.{dayByo}
@@ -125,10 +125,6 @@ months-643 =
     (first-643, first-644, places-worked genka genka-steady genkaTerm genka-term 73010 13 13, leap-worked genka genka-steady genkaTerm genka-term 73010 13)
 
 -- ---- dates and days
-
--- the month that has mid-term j, known by a test
-month-with : (r : Rules) → Steady r → (k j : ℕ) → T (hasTest r k (r .mid j)) → monthWith r j ≡ k
-month-with r s k j t = span-is (r .start) (s .months-grow) k (r .mid j) (has r k (r .mid j) t)
 
 -- 643 month 5 day 16 is 1956072, cycle 1
 day-643 : dayOf 2 643 5 false 16 ≡ given 1956072

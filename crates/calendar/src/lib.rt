@@ -11,6 +11,15 @@ use asked::MonthAsked;
 use asked::YearAsked;
 use months::Calendar;
 use months::Span;
+pub use moons::EclipseAnswer;
+pub use moons::FullMoon;
+pub use moons::Instant;
+pub use moons::Moons;
+pub use moons::MoonsAnswer;
+pub use moons::eclipse_of;
+pub use moons::full_moon_of;
+pub use moons::moons_of;
+pub use moons::new_moon_of;
 
 // A day number, or the refusal.
 pub enum DayAnswer {

@@ -46,7 +46,7 @@ covered-year Genka y from to = genka-year y from to
 -- ---- where the covered years begin and end, in round numbers
 
 pub record Edges (r : Rules) : Type 0 where
-  pub first-day : r .dayZero < firstDay r (r .firstYear)
+  pub first-day : r .dayZero + 2 < firstDay r (r .firstYear)
   pub last-day : nextFirstDay r (r .lastYear) < r .dayZero + 2 ^ 22
   pub last-month : firstMonth r (r .lastYear + 1) < 2 ^ 27 - 2
   pub day-zero : r .dayZero + 2 ^ 22 < 2 ^ 32

@@ -10,7 +10,7 @@ use Rattle.senmyo.specs.Means.{accumulatedYears, solstice, midTerm, meanNewMoon
 use Rattle.senmyo.specs.Phases.{newMoon}
 use Rattle.senmyo.proofs.Worked.{dayAt}
 use Rattle.months.specs.Rules.{Rules, senmyo, genka, dayNumber}
-use Rattle.months.specs.Months.{Has, HasTerm, monthOf, firstMonth, firstDay, nextFirstDay, nameOf}
+use Rattle.months.specs.Months.{Has, HasTerm, monthOf, monthWith, firstMonth, firstDay, nextFirstDay, nameOf}
 use Rattle.months.proofs.Steady.{Steady}
 use Rattle.months.proofs.Terms.{name-told}
 use Rattle.months.proofs.FirstMonths.{opened-by}
@@ -25,6 +25,10 @@ pub has : (r : Rules) (k d : ℕ) → T (hasTest r k d) → Has r k d
 has r k d t =
     let (from, to) = and-yes (leb (r .start k) d) (ltb d (r .start (k + 1))) t in
     record { from = leb→le _ _ from; to = ltb→lt _ _ to }
+
+-- the month that has mid-term j
+pub month-with : (r : Rules) → Steady r → (k j : ℕ) → T (hasTest r k (r .mid j)) → monthWith r j ≡ k
+month-with r s k j t = span-is (r .start) (s .months-grow) k (r .mid j) (has r k (r .mid j) t)
 
 -- month 1 of a year, by its Rain Water
 pub known : (r : Rules) → Steady r → (y k : ℕ) → T (hasTest r k (r .mid (r .rainWater y))) → firstMonth r y ≡ k

@@ -1,0 +1,83 @@
+-- Both moons together are the two single answers, and an instant that is given lies within 1/2^32 day of its moment.
+use mathlib.Core.Path.{_≡_, refl, ap, subst}
+use mathlib.Core.Bool.{Bool, true, false, not}
+use Prim.Native.Nat.{ℕ}
+use lib.Dec.{T}
+use lib.Ieee.{Float, isNan}
+use Rattle.numbers.specs.Answer.{Answer, given, need, then}
+use Rattle.numbers.proofs.Answers.{one-given}
+use Rattle.julian.proofs.Nearness.{near-number}
+use Rattle.julian.proofs.Moment.{instant-near}
+use Rattle.months.specs.declared.Calendar.{Calendar}
+use Rattle.months.specs.declared.Moment.{Moment}
+use Rattle.months.specs.Rules.{Rules, rulesOf}
+use Rattle.months.specs.Room.{Covering}
+use Rattle.asked.specs.Asked.{isCalendar, numbered, rulesFor, isCovered, monthNamed, hasMonth}
+use Rattle.asked.proofs.Covered.{covered-year-told, name-found, month-covering}
+use Rattle.moons.specs.declared.Moons.{Moons}
+use Rattle.moons.specs.Instants.{instantIn, NearMoment, ofMonth, newMoonIn, newMoonOf, fullMoonIn, fullMoonOf, moonsIn, moonsOf}
+use Rattle.moons.specs.Room.{Dated}
+use Rattle.moons.proofs.Moments.{new-dated, full-dated}
+use Rattle.moons.proofs.Refusals.{of-given}
+
+-- ---- both together
+
+abbrev pair : Float → Float → Moons
+pair new full = record { new = new; full = full }
+
+both-given : (a b c : Bool) (x y : Float) → need a 1 (need b 2 (need c 3 (given (pair x y)))) ≡ then (need a 1 (need b 2 (need c 3 (given x)))) (λ new. then (need a 1 (need b 2 (need c 3 (given y)))) (λ full. given (pair new full)))
+both-given true true true x y = refl
+both-given true true false x y = refl
+both-given true false c x y = refl
+both-given false b c x y = refl
+
+-- both moons are the new moon and then the full moon, each as its own call gives it
+pub both-are-single : (c y m : ℕ) (leap : Bool) → moonsOf c y m leap ≡ then (newMoonOf c y m leap) (λ new. then (fullMoonOf c y m leap) (λ full. given (pair new full)))
+unfolding newMoonOf fullMoonOf moonsOf
+both-are-single c y m leap = both-given (isCalendar c) (isCovered (rulesFor c) y) (hasMonth (rulesFor c) y m leap) _ _
+
+-- ---- how near
+
+moment-near : (r : Rules) (t : Moment) → Dated r t → NearMoment r t (instantIn r t)
+unfolding instantIn
+moment-near r t h = instant-near _ _ _ (h .datable)
+
+module _ (c y m : ℕ) (leap : Bool) where
+  abbrev month : ℕ
+  month = monthNamed (rulesFor c) y m leap
+
+  -- a month of which an answer is given is covered
+  given-covering : {A : Type 0} (of : Rules → ℕ → A) (a : A) → ofMonth of c y m leap ≡ given a → Covering (rulesFor c) month
+  given-covering of a e =
+      let g = of-given c y m leap of a .only-if e in
+      let covered = covered-year-told (rulesFor c) y (g .1 .0) in
+      month-covering (numbered c) y covered month (name-found (numbered c) y covered m leap (g .1 .1 .0) .of-year)
+
+  -- .. and the answer is that of the month
+  given-is : {A : Type 0} (of : Rules → ℕ → A) (a : A) → ofMonth of c y m leap ≡ given a → of (rulesFor c) month ≡ a
+  given-is of a e = one-given (of (rulesFor c) month) a (of-given c y m leap of a .only-if e .1 .1 .1)
+
+  pub new-near : (x : Float) → newMoonOf c y m leap ≡ given x → NearMoment (rulesFor c) (rulesFor c .newMoon month) x
+  unfolding newMoonOf
+  new-near x e =
+      subst (NearMoment (rulesFor c) (rulesFor c .newMoon month)) (given-is newMoonIn x e) (moment-near _ _ (new-dated (numbered c) month (given-covering newMoonIn x e)))
+
+  pub full-near : (x : Float) → fullMoonOf c y m leap ≡ given x → NearMoment (rulesFor c) (rulesFor c .fullMoon month) x
+  unfolding fullMoonOf
+  full-near x e =
+      subst (NearMoment (rulesFor c) (rulesFor c .fullMoon month)) (given-is fullMoonIn x e) (moment-near _ _ (full-dated (numbered c) month (given-covering fullMoonIn x e)))
+
+  -- the same of both together, so that each is a number
+  pub record Numbers (p : Moons) : Type 0 where
+    pub new : T (not (isNan (p .new)))
+    pub full : T (not (isNan (p .full)))
+
+  pub both-numbers : (p : Moons) → moonsOf c y m leap ≡ given p → Numbers p
+  unfolding moonsOf
+  both-numbers p e =
+      let h = given-covering moonsIn p e in
+      subst Numbers (given-is moonsIn p e)
+      (record {
+        new = near-number _ _ _ (moment-near _ _ (new-dated (numbered c) month h));
+        full = near-number _ _ _ (moment-near _ _ (full-dated (numbered c) month h));
+      })

@@ -1,0 +1,66 @@
+-- The moons of a covered month have Julian dates: they stand near its first day.
+use Prim.Native.Nat.{ℕ, _+_, _/_, _<_, _≤_, _^_}
+use native.Mathlib.Nat.{mod-lt}
+use native.Mathlib.Omega.{arith}
+use Rattle.units.specs.Units.{wholeDays}
+use Rattle.senmyo.specs.Phases.{fullMoonFen}
+use Rattle.months.specs.declared.Calendar.{Calendar}
+use Rattle.months.specs.declared.Calendar.the-variants.{Senmyo, Genka}
+use Rattle.months.specs.declared.Moment.{Moment}
+use Rattle.months.specs.Rules.{Rules, senmyo, rulesOf}
+use Rattle.months.specs.Room.{Covering}
+use Rattle.months.proofs.Moments.{dayOf, moon-days}
+use Rattle.months.proofs.CoveredYears.{edges, its-days, starts-covered, ends-covered}
+use Rattle.moons.specs.Room.{Dated}
+
+-- units of a day: some, and few
+record Units (t : Moment) : Type 0 where
+  some : 0 < t .«of_day»
+  few : t .«of_day» ≤ 2 ^ 20
+
+new-units : (c : Calendar) (k : ℕ) → Units (rulesOf c .newMoon k)
+unfolding rulesOf
+new-units Senmyo k = record { some = omega arith; few = omega arith }
+new-units Genka k = record { some = omega arith; few = omega arith }
+
+full-units : (c : Calendar) (k : ℕ) → Units (rulesOf c .fullMoon k)
+unfolding rulesOf
+full-units Senmyo k = record { some = omega arith; few = omega arith }
+full-units Genka k = record { some = omega arith; few = omega arith }
+
+-- a moment of a day that has a day number
+dated : (r : Rules) (t : Moment) → Units t → r .dayZero + 2 ≤ dayOf t → dayOf t < r .dayZero + 2 ^ 22 → Dated r t
+dated r t u from to =
+    record {
+      after-zero = omega (arith, from);
+      datable = record { from = omega (arith, from); to = omega (arith, from, to); in-day = mod-lt _ (u .some); few-parts = u .few };
+    }
+
+module _ (c : Calendar) (k : ℕ) (h : Covering (rulesOf c) k) where
+  -- the first day of a covered month, and the last, beside day number 0
+  from-start : rulesOf c .dayZero + 3 ≤ rulesOf c .start k
+  from-start = omega (arith, starts-covered c k h, edges c .first-day)
+
+  to-end : rulesOf c .start k + 29 < rulesOf c .dayZero + 2 ^ 22
+  to-end = omega (arith, its-days c k h .at-least, ends-covered c k h, edges c .last-day)
+
+  pub new-dated : Dated (rulesOf c) (rulesOf c .newMoon k)
+  new-dated =
+      let days = moon-days c k in
+      dated (rulesOf c) (rulesOf c .newMoon k) (new-units c k) (omega (arith, days .new-from, from-start)) (omega (arith, days .new-to, to-end))
+
+  pub full-dated : Dated (rulesOf c) (rulesOf c .fullMoon k)
+  full-dated =
+      let days = moon-days c k in
+      dated (rulesOf c) (rulesOf c .fullMoon k) (full-units c k) (omega (arith, days .full-from, from-start)) (omega (arith, days .full-to, to-end))
+
+-- the day of Senmyo's full moon has a day number
+pub record Numbered (d : ℕ) : Type 0 where
+  pub from : senmyo .dayZero ≤ d
+  pub to : d < senmyo .dayZero + 2 ^ 22
+
+pub full-numbered : (k : ℕ) → Covering senmyo k → Numbered (wholeDays (fullMoonFen k))
+unfolding rulesOf
+full-numbered k h =
+    let t = full-dated Senmyo k h in
+    record { from = t .after-zero; to = omega (arith, t .after-zero, t .datable .to) }

@@ -1,0 +1,37 @@
+-- Two answers that mean the same are one, so that a contract that says what an answer means fixes it.
+use mathlib.Core.Path.{_≡_, ap}
+use Rattle.numbers.proofs.Answers.{one-given}
+use Rattle.eclipse.specs.declared.Grade.{Grade}
+use Rattle.eclipse.specs.Eclipse.{Graded}
+use Rattle.eclipse.specs.Answers.{gradeMeans}
+use Rattle.eclipse.proofs.OneAnswer.{one-grade}
+use Rattle.moons.specs.declared.FullMoon.{FullMoon}
+use Rattle.moons.specs.declared.EclipseAnswer.{EclipseAnswer}
+use Rattle.moons.specs.declared.EclipseAnswer.the-variants as eclipse-answer
+use Rattle.moons.specs.declared.Instant.{Instant}
+use Rattle.moons.specs.declared.Instant.the-variants as instant
+use Rattle.moons.specs.declared.MoonsAnswer.{MoonsAnswer}
+use Rattle.moons.specs.declared.MoonsAnswer.the-variants as moons-answer
+use Rattle.moons.specs.Answers.{eclipseMeans, instantMeans, moonsMeans}
+
+pub one-eclipse : (x y : EclipseAnswer) → eclipseMeans x ≡ eclipseMeans y → x ≡ y
+one-eclipse (eclipse-answer.FullMoon m g) (eclipse-answer.FullMoon n h) e =
+    let same = one-given (m, gradeMeans g) (n, gradeMeans h) e in
+    let moons : m ≡ n = ap (λ (p : FullMoon × Graded). p .0) same in
+    let grades : g ≡ h = one-grade g h (ap (λ (p : FullMoon × Graded). p .1) same) in
+    cc
+one-eclipse (eclipse-answer.FullMoon m g) (eclipse-answer.Refused n) e = cc
+one-eclipse (eclipse-answer.Refused n) (eclipse-answer.FullMoon m g) e = cc
+one-eclipse (eclipse-answer.Refused n) (eclipse-answer.Refused k) e = cc
+
+pub one-instant : (x y : Instant) → instantMeans x ≡ instantMeans y → x ≡ y
+one-instant (instant.At a) (instant.At b) e = cc
+one-instant (instant.At a) (instant.Refused n) e = cc
+one-instant (instant.Refused n) (instant.At b) e = cc
+one-instant (instant.Refused n) (instant.Refused k) e = cc
+
+pub one-pair : (x y : MoonsAnswer) → moonsMeans x ≡ moonsMeans y → x ≡ y
+one-pair (moons-answer.Both a) (moons-answer.Both b) e = cc
+one-pair (moons-answer.Both a) (moons-answer.Refused n) e = cc
+one-pair (moons-answer.Refused n) (moons-answer.Both b) e = cc
+one-pair (moons-answer.Refused n) (moons-answer.Refused k) e = cc

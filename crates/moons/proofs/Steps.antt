@@ -1,0 +1,76 @@
+-- The calls' definitions, step by step as the code takes them.
+use mathlib.Core.Path.{_≡_, refl, sym, ap, subst, _∙_}
+use mathlib.Core.Bool.{Bool, true, false, _||_, false≢true}
+use Prim.Native.Nat.{ℕ}
+use lib.Dec.{eqb}
+use borrow.Author.Tests.{ne-eqb}
+use Rattle.numbers.specs.Answer.{Answer, given, refused, need, then}
+use Rattle.numbers.proofs.Answers.{one-given, then-need}
+use Rattle.eclipse.specs.Eclipse.{Graded}
+use Rattle.months.specs.declared.Calendar.{Calendar}
+use Rattle.months.specs.declared.Calendar.the-variants.{Senmyo}
+use Rattle.months.specs.declared.Span.{Span}
+use Rattle.months.specs.Rules.{Rules, senmyo, rulesOf}
+use Rattle.months.specs.Months.{spanned}
+use Rattle.months.specs.Room.{Covering}
+use Rattle.asked.specs.Asked.{isCalendar, numbered, rulesFor, isCovered, monthNamed, hasMonth, monthAsked}
+use Rattle.asked.proofs.Refusals.{month-given}
+use Rattle.asked.proofs.Covered.{asked-span}
+use Rattle.moons.specs.declared.FullMoon.{FullMoon}
+use Rattle.moons.specs.Eclipses.{eclipseIn, eclipseOf}
+use Rattle.moons.specs.Instants.{ofMonth}
+
+-- ---- what is asked of a month
+
+module _ {A : Type 0} (of : Rules → ℕ → A) (c y m : ℕ) (leap : Bool) where
+  abbrev told : Calendar × Span → Answer A
+  told a = given (of (rulesOf (a .0)) (a .1 .month))
+
+  pub of-asked : ofMonth of c y m leap ≡ then (monthAsked c y m leap) told
+  unfolding monthAsked
+  of-asked =
+      let r : Rules = rulesFor c in
+      let a : Answer (Calendar × Span) = given (numbered c, spanned r (monthNamed r y m leap)) in
+      sym
+      (then-need (isCalendar c) 1 (need (isCovered r y) 2 (need (hasMonth r y m leap) 3 a)) told
+      ∙ ap (need (isCalendar c) 1) (then-need (isCovered r y) 2 (need (hasMonth r y m leap) 3 a) told ∙ ap (need (isCovered r y) 2) (then-need (hasMonth r y m leap) 3 a told)))
+
+  pub of-refused : (n : ℕ) → monthAsked c y m leap ≡ refused n → ofMonth of c y m leap ≡ refused n
+  of-refused n e = of-asked ∙ ap (λ a. then a told) e
+
+  pub of-found : (k : Calendar) (s : Span) → monthAsked c y m leap ≡ given (k, s) → ofMonth of c y m leap ≡ given (of (rulesOf k) (s .month))
+  of-found k s e = of-asked ∙ ap (λ a. then a told) e
+
+-- ---- the eclipse: what is asked of a month of Senmyo
+
+pub of-genka : (c y m : ℕ) (leap : Bool) → c ≡ 2 → refused 13 ≡ eclipseOf c y m leap
+unfolding eclipseOf
+of-genka c y m leap e = sym (ap (λ c. eclipseOf c y m leap) e)
+
+-- a calendar that is not Genka's is Senmyo's
+no-other : {A : Type 0} (senmyo : Bool) (a : Answer A) → need (senmyo || false) 1 (need senmyo 13 a) ≡ need (senmyo || false) 1 a
+no-other true a = refl
+no-other false a = refl
+
+pub not-genka : (c y m : ℕ) (leap : Bool) → (c ≡ 2 → ⊥) → eclipseOf c y m leap ≡ ofMonth (λ r k. eclipseIn k) c y m leap
+unfolding eclipseOf
+not-genka c y m leap h =
+    let r : Rules = rulesFor c in
+    let a : Answer (FullMoon × Graded) = need (isCovered r y) 2 (need (hasMonth r y m leap) 3 (given (eclipseIn (monthNamed r y m leap)))) in
+    let genka : eqb c 2 ≡ false = ne-eqb c 2 h in
+    ap (λ b. need (eqb c 1 || b) 1 (need (eqb c 1) 13 a)) genka ∙ no-other (eqb c 1) a ∙ sym (ap (λ b. need (eqb c 1 || b) 1 a) genka)
+
+-- .. so that the month is one of Senmyo's
+is-senmyo : (c : ℕ) → (c ≡ 2 → ⊥) → isCalendar c ≡ true → numbered c ≡ Senmyo
+is-senmyo c h is = by-number (eqb c 1) refl
+  where
+    by-number : (b : Bool) → eqb c 1 ≡ b → numbered c ≡ Senmyo
+    by-number true e = rw (e, numbered)
+    by-number false e = absurd (false≢true (sym (rw (e, ne-eqb c 2 h)) ∙ is))
+
+pub senmyo-found : (c y m : ℕ) (leap : Bool) (k : Calendar) (s : Span) → (c ≡ 2 → ⊥) → monthAsked c y m leap ≡ given (k, s) → Covering senmyo (s .month)
+unfolding rulesOf
+senmyo-found c y m leap k s h e =
+    let g = month-given c y m leap (k, s) .only-if e in
+    let same : k ≡ Senmyo = sym (ap (λ (a : Calendar × Span). a .0) (one-given (numbered c, spanned (rulesFor c) (monthNamed (rulesFor c) y m leap)) (k, s) (g .1 .1 .1))) ∙ is-senmyo c h (g .0) in
+    subst (λ (k : Calendar). Covering (rulesOf k) (s .month)) same (asked-span c y m leap k s e .covering)

@@ -1,0 +1,62 @@
+-- `moons::eclipse_of` meets its contract: once Genka is refused, a calendar that is known is Senmyo, and the rest is asked of a month.
+use mathlib.Core.Path.{_≡_, sym, ap, _∙_}
+use borrow.Author.Needs.{needs}
+use Rattle.numbers.specs.Answer.{given, refusalIn}
+use Rattle.asked.specs.Asked.{monthAsked}
+use Rattle.asked.specs.Answers.{monthMeans}
+use Rattle.moons.specs.Eclipses.{eclipseIn}
+use Rattle.moons.proofs.Steps.{of-refused, of-found, of-genka, not-genka, senmyo-found}
+use Rattle.moons.proofs.eclipse_of.Statement.{statement}
+use Rattle.moons.proofs.eclipse_of.Tie as tie
+
+returns : tie.Need-returns
+returns c = of-genka _ _ _ _ (c .if1 .taken)
+
+asked-month-requires : tie.Need-asked-month-requires
+asked-month-requires c κs = search needs
+
+enum-known-asked : tie.Need-enum-known-asked
+enum-known-asked c = search needs
+
+enum-told : tie.Need-enum-told
+enum-told c = search needs
+
+month-refusal-requires : tie.Need-month-refusal-requires
+month-refusal-requires c κs = search needs
+
+returns-2 : tie.Need-returns-2
+returns-2 c =
+    let told = c .before .enum-told .given in
+    let asked = c .before .before .before in
+    let number : c .month-refusal .result ≡ told .0 .0 = c .month-refusal .ensures ∙ ap (λ a. refusalIn (monthMeans a)) (told .1) in
+    rw number (sym (not-genka _ _ _ _ (asked .before .if1 .left) ∙ of-refused (λ r k. eclipseIn k) _ _ _ _ (told .0 .0) (sym (asked .asked-month .ensures) ∙ ap monthMeans (told .1))))
+
+-- the month that was asked for, once it is found
+month-asked : (c : tie.After-known-told) → monthAsked (c .before .before .before .before .before .args .calendar) (c .before .before .before .before .before .args .year) (c .before .before .before .before .before .args .month) (c .before .before .before .before .before .args .leap) ≡ given (c .before .asked .given .0 .0, c .before .asked .given .0 .1 .0)
+month-asked c = sym (c .before .before .before .asked-month .ensures) ∙ ap monthMeans (c .before .asked .given .1)
+
+full-moon-in-requires : tie.Need-full-moon-in-requires
+full-moon-in-requires c κs = senmyo-found _ _ _ _ _ _ (c .before .before .before .before .if1 .left) (month-asked c)
+
+grade-of-requires : tie.Need-grade-of-requires
+grade-of-requires c κs = search needs
+
+returns-3 : tie.Need-returns-3
+returns-3 c =
+    let found = c .before .before in
+    rw (c .grade-of .ensures, c .before .full-moon-in .ensures)
+    (sym (not-genka _ _ _ _ (found .before .before .before .before .if1 .left) ∙ of-found (λ r k. eclipseIn k) _ _ _ _ _ _ (month-asked found)))
+
+pub eclipse-of-spec : {M : Type 1} → statement M
+eclipse-of-spec =
+    tie.close
+    (tie.spec
+    returns
+    asked-month-requires
+    enum-known-asked
+    enum-told
+    month-refusal-requires
+    returns-2
+    full-moon-in-requires
+    grade-of-requires
+    returns-3)

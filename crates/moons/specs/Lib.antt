@@ -1,0 +1,4 @@
+pub mod Eclipses
+pub mod Instants
+pub mod Answers
+pub mod Room

@@ -1,0 +1,121 @@
+ghost use mathlib.Core.Path.{_≡_};
+ghost use Rattle.months.specs.Rules.{senmyo, rulesOf};
+ghost use Rattle.months.specs.Room.{Covering};
+ghost use Rattle.moons.specs.Eclipses.{fullMoonIn, eclipseOf};
+ghost use Rattle.moons.specs.Instants.{instantIn, newMoonOf, fullMoonOf, moonsOf};
+ghost use Rattle.moons.specs.Answers.{eclipseMeans, instantMeans, moonsMeans};
+ghost use Rattle.moons.specs.Room.{Dated};
+use asked::MonthAsked;
+use eclipse::Grade;
+use eclipse::Side;
+use months::Calendar;
+use months::Moment;
+use units::Fen;
+
+// The full moon of a month: its day number, the fen of that day, and where it stands from the node.
+pub struct FullMoon {
+    pub day: u32,
+    pub fen: Fen,
+    pub side: Side,
+    pub distance: Fen,
+}
+
+// The full moon and how far it is eclipsed, or the refusal.
+pub enum EclipseAnswer {
+    FullMoon(FullMoon, Grade),
+    Refused(u8),
+}
+
+// A Julian date, or the refusal.
+pub enum Instant {
+    At(f64),
+    Refused(u8),
+}
+
+// The new and the full moon of a month, as Julian dates.
+pub struct Moons {
+    pub new: f64,
+    pub full: f64,
+}
+
+pub enum MoonsAnswer {
+    Both(Moons),
+    Refused(u8),
+}
+
+fn full_moon_in(month: u32) -> FullMoon
+    requires { ⌜ Covering senmyo month ⌝ }
+    ensures { λ r. ⌜ r ≡ fullMoonIn month ⌝ }
+{
+    let moon = senmyo::full_moon_fen(month);
+    let node = senmyo::node(month);
+    let side = node.side;
+    let distance = node.distance;
+    FullMoon {
+        day: (units::whole_days(moon) - months::day_zero(Calendar::Senmyo)) as u32,
+        fen: units::fen_of_day(moon),
+        side,
+        distance,
+    }
+}
+
+// The lunar eclipse of a month. Only Senmyo has them.
+pub fn eclipse_of(calendar: u64, year: u64, month: u64, leap: bool) -> EclipseAnswer
+    ensures { λ r. ⌜ eclipseMeans r ≡ eclipseOf calendar year month leap ⌝ }
+{
+    if calendar == 2 {
+        return EclipseAnswer::Refused(13);
+    }
+    let asked = asked::asked_month(calendar, year, month, leap);
+    let MonthAsked::Found(_, span) = asked else {
+        return EclipseAnswer::Refused(asked::month_refusal(asked));
+    };
+    let moon = full_moon_in(span.month);
+    EclipseAnswer::FullMoon(moon, eclipse::grade_of(moon.distance))
+}
+
+// The Julian date of a moment.
+fn instant_of(calendar: Calendar, moment: Moment) -> f64
+    requires { ⌜ Dated (rulesOf calendar) moment ⌝ }
+    ensures { λ r. ⌜ r ≡ instantIn (rulesOf calendar) moment ⌝ }
+{
+    let day = moment.units / (moment.of_day as u64) - months::day_zero(calendar);
+    let part = moment.units % (moment.of_day as u64);
+    julian::julian_date(day as u32, part as u32, moment.of_day)
+}
+
+// The new moon of a month.
+pub fn new_moon_of(calendar: u64, year: u64, month: u64, leap: bool) -> Instant
+    ensures { λ r. ⌜ instantMeans r ≡ newMoonOf calendar year month leap ⌝ }
+{
+    let asked = asked::asked_month(calendar, year, month, leap);
+    let MonthAsked::Found(known, span) = asked else {
+        return Instant::Refused(asked::month_refusal(asked));
+    };
+    Instant::At(instant_of(known, months::new_moon(known, span.month)))
+}
+
+// The full moon of a month.
+pub fn full_moon_of(calendar: u64, year: u64, month: u64, leap: bool) -> Instant
+    ensures { λ r. ⌜ instantMeans r ≡ fullMoonOf calendar year month leap ⌝ }
+{
+    let asked = asked::asked_month(calendar, year, month, leap);
+    let MonthAsked::Found(known, span) = asked else {
+        return Instant::Refused(asked::month_refusal(asked));
+    };
+    Instant::At(instant_of(known, months::full_moon(known, span.month)))
+}
+
+// Both moons of a month.
+pub fn moons_of(calendar: u64, year: u64, month: u64, leap: bool) -> MoonsAnswer
+    ensures { λ r. ⌜ moonsMeans r ≡ moonsOf calendar year month leap ⌝ }
+{
+    let asked = asked::asked_month(calendar, year, month, leap);
+    let MonthAsked::Found(known, span) = asked else {
+        return MoonsAnswer::Refused(asked::month_refusal(asked));
+    };
+    MoonsAnswer::Both(Moons {
+        new: instant_of(known, months::new_moon(known, span.month)),
+        full: instant_of(known, months::full_moon(known, span.month)),
+    })
+}
