@@ -1,10 +1,10 @@
 //! The figures worked in the rules, each beside what the peer makes of it.
 
-use crate::calendar::cycle_number;
+use crate::calendar::{cycle_number, Calendar};
 use crate::months::{self, Month, Year};
 use crate::refusal::Refusal;
 use crate::units::Fen;
-use crate::{moon, senmyo, sun};
+use crate::{eclipse, moon, senmyo, sun};
 
 const SUN_OF_1522: [i64; 12] = [
     1136, 1483, 1484, 1154, 549, -281, -974, -1406, -1522, -1295, -733, 139,
@@ -38,6 +38,9 @@ pub fn all() -> Vec<Figure> {
     figures.extend(corrections_of_1522());
     figures.extend(advances());
     figures.extend(corrections_of_1413());
+    figures.extend(eclipse_of_1522());
+    figures.extend(edges_of_eclipses());
+    figures.extend(count_of_eclipses());
     figures.extend(year_643());
     figures.extend(edges_of_the_calendars());
     figures
@@ -86,6 +89,52 @@ fn advances() -> Vec<Figure> {
         figure("fen 6299 moves", moves(Fen(6299)), 0),
         figure("fen 6300 moves", moves(Fen(6300)), 1),
     ]
+}
+
+fn eclipse_of_1522() -> Vec<Figure> {
+    let eclipse = eclipse::of_month(covered(1, 1522).months[1].new_moon);
+    let [kind, parts, remainder, strong] = eclipse.size.numbers();
+    let full_moon = eclipse.full_moon.of_the_day().0;
+    vec![
+        figure("1522 month 2, full moon's fen", full_moon, 6215),
+        figure("1522 month 2, side", eclipse.side.number(), 1),
+        figure("1522 month 2, distance", eclipse.distance.0, 2241),
+        figure("1522 month 2, kind", kind, 2),
+        figure("1522 month 2, parts", parts, 14),
+        figure("1522 month 2, remainder", remainder, 412),
+        figure("1522 month 2, strong", strong, 1),
+    ]
+}
+
+fn edges_of_eclipses() -> Vec<Figure> {
+    let numbers = |distance| eclipse::size(Fen(distance)).numbers();
+    let kind = |distance| numbers(distance)[0];
+    let parts = |distance| numbers(distance)[1];
+    let remainder = |distance| numbers(distance)[2];
+    let strong = |distance| numbers(distance)[3];
+    vec![
+        figure("distance 2147, kind", kind(2147), 1),
+        figure("distance 2147, parts", parts(2147), 15),
+        figure("distance 2147, remainder", remainder(2147), 0),
+        figure("distance 2148, kind", kind(2148), 2),
+        figure("distance 2148, parts", parts(2148), 14),
+        figure("distance 2148, strong", strong(2148), 1),
+        figure("distance 9736, kind", kind(9736), 2),
+        figure("distance 9736, parts", parts(9736), 0),
+        figure("distance 9736, strong", strong(9736), 0),
+        figure("distance 9737, kind", kind(9737), 0),
+        figure("distance 9737, parts", parts(9737), 0),
+        figure("distance 9737, remainder", remainder(9737), 0),
+    ]
+}
+
+fn count_of_eclipses() -> Vec<Figure> {
+    let years = months::covered_years(Calendar::Senmyo);
+    let months = years.iter().flat_map(|year| &year.months);
+    let count = months
+        .filter(|month| eclipse::of_month(month.new_moon).happens())
+        .count();
+    vec![figure("eclipsed full moons", count as i64, 1_819)]
 }
 
 fn year_643() -> Vec<Figure> {

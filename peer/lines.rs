@@ -1,9 +1,12 @@
 //! What the commands print.
 
 use crate::calendar::cycle_number;
+use crate::eclipse::{self, Eclipse};
 use crate::figures::Figure;
+use crate::instants;
 use crate::months::{Month, Year};
 use crate::refusal::Refusal;
+use crate::senmyo;
 
 pub fn year_table(year: &Year) -> String {
     let head = [
@@ -36,6 +39,51 @@ pub fn year_line(year: &Year) -> String {
     ];
     numbers.extend(year.months.iter().map(|month| month.length));
     line(&numbers)
+}
+
+/// A line for each month of a Senmyo year whose full moon is eclipsed.
+pub fn eclipse_lines(year: &Year) -> String {
+    let eclipses = year
+        .months
+        .iter()
+        .map(|month| (month, eclipse::of_month(month.new_moon)));
+    eclipses
+        .filter(|(_, eclipse)| eclipse.happens())
+        .map(|(month, eclipse)| eclipse_line(year, month, &eclipse))
+        .collect()
+}
+
+fn eclipse_line(year: &Year, month: &Month, eclipse: &Eclipse) -> String {
+    let mut numbers = vec![
+        year.number,
+        month.number,
+        i64::from(month.leap),
+        senmyo::day_number(eclipse.full_moon.whole_days()),
+        eclipse.full_moon.of_the_day().0,
+        eclipse.side.number(),
+        eclipse.distance.0,
+    ];
+    numbers.extend(eclipse.size.numbers());
+    line(&numbers)
+}
+
+pub fn instant_lines(year: &Year) -> String {
+    let months = year.months.iter();
+    months.map(|month| instant_line(year, month)).collect()
+}
+
+/// The two dates are told by their bits.
+fn instant_line(year: &Year, month: &Month) -> String {
+    let moons = instants::moons(year.calendar, month.new_moon);
+    format!(
+        "{} {} {} {} {:016x} {:016x}\n",
+        year.calendar.number(),
+        year.number,
+        month.number,
+        i64::from(month.leap),
+        moons.new.to_bits(),
+        moons.full.to_bits(),
+    )
 }
 
 pub fn refused(refusal: Refusal) -> String {

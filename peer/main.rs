@@ -7,8 +7,10 @@
 
 mod answers;
 mod calendar;
+mod eclipse;
 mod figures;
 mod genka;
+mod instants;
 mod lines;
 mod months;
 mod moon;
@@ -18,6 +20,7 @@ mod senmyo;
 mod sun;
 mod units;
 
+use calendar::Calendar;
 use std::env;
 use std::process::ExitCode;
 
@@ -31,6 +34,8 @@ fn main() -> ExitCode {
         ["year", calendar, year] => print_year(calendar, year),
         ["years"] => print_years(),
         ["answers"] => print_answers(),
+        ["eclipses"] => print_eclipses(),
+        ["instants"] => print_instants(),
         ["figures"] => print_figures(),
         _ => usage(),
     }
@@ -63,6 +68,20 @@ fn print_answers() -> ExitCode {
     ExitCode::SUCCESS
 }
 
+fn print_eclipses() -> ExitCode {
+    for year in months::covered_years(Calendar::Senmyo) {
+        print!("{}", lines::eclipse_lines(&year));
+    }
+    ExitCode::SUCCESS
+}
+
+fn print_instants() -> ExitCode {
+    for year in calendar::ALL.into_iter().flat_map(instants::sample) {
+        print!("{}", lines::instant_lines(&year));
+    }
+    ExitCode::SUCCESS
+}
+
 fn print_figures() -> ExitCode {
     let figures = figures::all();
     for figure in &figures {
@@ -76,6 +95,9 @@ fn print_figures() -> ExitCode {
 }
 
 fn usage() -> ExitCode {
-    eprintln!("usage: peer year CALENDAR YEAR | peer years | peer answers | peer figures");
+    eprintln!(
+        "usage: peer year CALENDAR YEAR | peer COMMAND\n\
+         COMMAND: years, answers, eclipses, instants or figures"
+    );
     ExitCode::from(2)
 }
