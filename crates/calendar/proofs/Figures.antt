@@ -4,13 +4,12 @@ use mathlib.Core.Bool.{true, false}
 use mathlib.Core.List.{[], _∷_}
 use Prim.Native.Nat.{ℕ, zero, suc, _+_, _-_, _*_, _/_, _^_}
 use native.Mathlib.Omega.{arith}
-use lib.Dec.{T, ltb}
+use lib.Dec.{ltb}
 use Rattle.numbers.specs.Answer.{given, refused}
 use Rattle.numbers.specs.Spans.{Holds}
-use Rattle.numbers.proofs.Spans.{span-is}
 use Rattle.months.specs.declared.Name.{Name}
 use Rattle.months.specs.Rules.{Rules, senmyo, genka, rulesOf, dayNumber}
-use Rattle.months.specs.Months.{monthWith, termNumber, isLeap}
+use Rattle.months.specs.Months.{termNumber, isLeap}
 use Rattle.months.proofs.Steady.{Steady}
 use Rattle.months.proofs.Terms.{name-told}
 use Rattle.months.proofs.Calendars.{senmyo-steady, genka-steady}

@@ -1,8 +1,6 @@
 -- The definitions at 01's edges and worked figure.
 use mathlib.Core.Path.{_≡_, refl}
 use mathlib.Core.Bool.{true, false}
-use Prim.Native.Nat.{ℕ}
-use Rattle.numbers.specs.Rounding.{nearest, modulo}
 use Rattle.units.specs.Units.{fen}
 use Rattle.eclipse.specs.Eclipse.{partial, noEclipse, totalEclipse, gradeOf}
 

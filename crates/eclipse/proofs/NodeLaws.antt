@@ -4,13 +4,13 @@ use mathlib.Core.Bool.{Bool, true, false}
 use Prim.Native.Nat.{ℕ, _+_, _-_, _*_, _/_, _%_, _<_, _≤_, min}
 use native.Mathlib.Omega.{arith}
 use borrow.Author.Tests.{lt-ltb, le-ltb}
-use lib.IntN.{ℤ, pos, natAbs, _+ℤ_, _*ℤ_}
+use lib.IntN.{ℤ, pos, _+ℤ_, _*ℤ_}
 use lib.Signed.{_≤ℤ_}
 use Rattle.numbers.specs.Sign.{minus}
 use Rattle.numbers.specs.Rounding.{nearest, modulo}
 use Rattle.numbers.specs.Difference.{Is}
 use Rattle.numbers.proofs.Difference.{is-pos, is-neg, is-add, is-mul, is-parts, is-sub, is-one, is-same}
-use Rattle.numbers.proofs.Order.{is-le, le-is, ≤ℤ-trans}
+use Rattle.numbers.proofs.Order.{is-le, le-is}
 use Rattle.numbers.proofs.Size.{Small, small-add, small-between, small-low, small-high}
 use Rattle.numbers.proofs.Rounding.{nearest-mono, modulo-told, modulo-below}
 use Rattle.units.specs.declared.Byo.{Byo}

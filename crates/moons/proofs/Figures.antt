@@ -9,7 +9,7 @@ use Rattle.units.specs.Units.{fen}
 use Rattle.julian.specs.Julian.{rounded, instant}
 use Rattle.eclipse.specs.declared.Side.the-variants.{Yin}
 use Rattle.eclipse.specs.Eclipse.{partial, nodePlace, distanceOf, nodeOf, gradeOf}
-use Rattle.senmyo.specs.Phases.{corrections, newMoon, fullMoon}
+use Rattle.senmyo.specs.Phases.{corrections, fullMoon}
 use Rattle.senmyo.specs.FullMoons.{nodePlaceAt}
 use Rattle.senmyo.proofs.Worked.{sunAt, moonAt, dayAt}
 use Rattle.months.specs.Rules.{senmyo, genka, rulesOf}

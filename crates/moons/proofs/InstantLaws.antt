@@ -1,16 +1,15 @@
 -- Both moons together are the two single answers, and an instant that is given lies within 1/2^32 day of its moment.
-use mathlib.Core.Path.{_≡_, refl, ap, subst}
+use mathlib.Core.Path.{_≡_, refl, subst}
 use mathlib.Core.Bool.{Bool, true, false, not}
 use Prim.Native.Nat.{ℕ}
 use lib.Dec.{T}
 use lib.Ieee.{Float, isNan}
-use Rattle.numbers.specs.Answer.{Answer, given, need, then}
+use Rattle.numbers.specs.Answer.{given, need, then}
 use Rattle.numbers.proofs.Answers.{one-given}
 use Rattle.julian.proofs.Nearness.{near-number}
 use Rattle.julian.proofs.Moment.{instant-near}
-use Rattle.months.specs.declared.Calendar.{Calendar}
 use Rattle.months.specs.declared.Moment.{Moment}
-use Rattle.months.specs.Rules.{Rules, rulesOf}
+use Rattle.months.specs.Rules.{Rules}
 use Rattle.months.specs.Room.{Covering}
 use Rattle.asked.specs.Asked.{isCalendar, numbered, rulesFor, isCovered, monthNamed, hasMonth}
 use Rattle.asked.proofs.Covered.{covered-year-told, name-found, month-covering}
@@ -37,6 +36,11 @@ unfolding newMoonOf fullMoonOf moonsOf
 both-are-single c y m leap = both-given (isCalendar c) (isCovered (rulesFor c) y) (hasMonth (rulesFor c) y m leap) _ _
 
 -- ---- how near
+
+-- neither of the two is nan
+pub record Numbers (p : Moons) : Type 0 where
+  pub new : T (not (isNan (p .new)))
+  pub full : T (not (isNan (p .full)))
 
 moment-near : (r : Rules) (t : Moment) → Dated r t → NearMoment r t (instantIn r t)
 unfolding instantIn
@@ -67,11 +71,7 @@ module _ (c y m : ℕ) (leap : Bool) where
   full-near x e =
       subst (NearMoment (rulesFor c) (rulesFor c .fullMoon month)) (given-is fullMoonIn x e) (moment-near _ _ (full-dated (numbered c) month (given-covering fullMoonIn x e)))
 
-  -- the same of both together, so that each is a number
-  pub record Numbers (p : Moons) : Type 0 where
-    pub new : T (not (isNan (p .new)))
-    pub full : T (not (isNan (p .full)))
-
+  -- so both are numbers
   pub both-numbers : (p : Moons) → moonsOf c y m leap ≡ given p → Numbers p
   unfolding moonsOf
   both-numbers p e =

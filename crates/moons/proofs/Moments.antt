@@ -1,5 +1,5 @@
 -- The moons of a covered month have Julian dates: they stand near its first day.
-use Prim.Native.Nat.{ℕ, _+_, _/_, _<_, _≤_, _^_}
+use Prim.Native.Nat.{ℕ, _+_, _<_, _≤_, _^_}
 use native.Mathlib.Nat.{mod-lt}
 use native.Mathlib.Omega.{arith}
 use Rattle.units.specs.Units.{wholeDays}

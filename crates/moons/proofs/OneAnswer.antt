@@ -1,7 +1,6 @@
 -- Two answers that mean the same are one, so that a contract that says what an answer means fixes it.
 use mathlib.Core.Path.{_≡_, ap}
 use Rattle.numbers.proofs.Answers.{one-given}
-use Rattle.eclipse.specs.declared.Grade.{Grade}
 use Rattle.eclipse.specs.Eclipse.{Graded}
 use Rattle.eclipse.specs.Answers.{gradeMeans}
 use Rattle.eclipse.proofs.OneAnswer.{one-grade}

@@ -13,10 +13,6 @@ use Rattle.numbers.proofs.Order.{le-is}
 use Rattle.numbers.proofs.Spans.{Growing}
 use Rattle.numbers.proofs.Tests.{everyTwo, at-each-two}
 use Rattle.units.specs.Units.{fenToByo, wholeDays}
-use Rattle.sun.specs.Sun.{sunOf}
-use Rattle.moon.specs.Moon.{moonOf}
-use Rattle.sun.proofs.Bounds.{sun-bounds}
-use Rattle.moon.proofs.Rows.{moon-bounds}
 use Rattle.senmyo.specs.Means.{meanNewMoon, meanFullMoon, midTermDay, rainWater}
 use Rattle.senmyo.specs.Phases.{corrections, newMoon, newMoonDay, fullMoon, fullMoonFen}
 use Rattle.senmyo.specs.Room.{meanMonth}

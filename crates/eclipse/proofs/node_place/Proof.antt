@@ -1,11 +1,11 @@
 -- `eclipse::node_place` meets its contract: with a period more the sum is not below zero, and fits its word.
-use mathlib.Core.Path.{_≡_, sym, _∙_}
+use mathlib.Core.Path.{_≡_}
 use Prim.Native.Nat.{ℕ, _+_, _%_, _<_, _^_}
 use native.Mathlib.Omega.{arith}
 use lib.IntN.{ℤ, pos, _+ℤ_, _*ℤ_}
 use lib.Signed.{yes-nonNeg, pos-natAbs}
 use mir.Syntax.{w64}
-use mir.Val.{SFits, toZ, ofZ}
+use mir.Val.{toZ, ofZ}
 use mir.Facts.{toZ-ofZ, toZ-pos, fits-natAbs}
 use borrow.Author.Needs.{needs}
 use Rattle.numbers.proofs.Size.{Small, small-pos, small-fits, Line, line}

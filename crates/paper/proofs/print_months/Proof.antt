@@ -5,10 +5,10 @@ use Rattle.paper.proofs.print_months.Statement.{statement}
 use Rattle.paper.proofs.print_months.Tie as tie
 
 abbrev Inv-loop : tie.InvT-loop
-Inv-loop year in-full months place₀ place = place ≤ 13
+Inv-loop calendar number year form months place₀ place = place ≤ 13
 
 abbrev μ-loop : tie.MeasureT-loop
-μ-loop year in-full months place₀ place = 13 - place
+μ-loop calendar number year form months place₀ place = 13 - place
 
 loop-holds : tie.Need-loop-holds Inv-loop μ-loop
 loop-holds c = search needs
@@ -16,14 +16,14 @@ loop-holds c = search needs
 cast-if1 : tie.Need-cast-if1 Inv-loop μ-loop
 cast-if1 c = search needs
 
-mul-print-month-or-length : tie.Need-mul-print-month-or-length Inv-loop μ-loop
-mul-print-month-or-length c = search needs
+mul-print-month-as : tie.Need-mul-print-month-as Inv-loop μ-loop
+mul-print-month-as c = search needs
 
-array-copy-out-print-month-or-length : tie.Need-array-copy-out-print-month-or-length Inv-loop μ-loop
-array-copy-out-print-month-or-length c = search needs
+array-copy-out-print-month-as : tie.Need-array-copy-out-print-month-as Inv-loop μ-loop
+array-copy-out-print-month-as c = search needs
 
-print-month-or-length-requires : tie.Need-print-month-or-length-requires Inv-loop μ-loop
-print-month-or-length-requires c κs = search needs
+print-month-as-requires : tie.Need-print-month-as-requires Inv-loop μ-loop
+print-month-as-requires c κs = search needs
 
 add-place : tie.Need-add-place Inv-loop μ-loop
 add-place c = search needs
@@ -45,9 +45,9 @@ print-months-spec =
     μ-loop
     loop-holds
     cast-if1
-    mul-print-month-or-length
-    array-copy-out-print-month-or-length
-    print-month-or-length-requires
+    mul-print-month-as
+    array-copy-out-print-month-as
+    print-month-as-requires
     add-place
     loop-less
     loop-again

@@ -25,6 +25,12 @@ print-head-requires c κs = search needs
 print-line-end-requires : tie.Need-print-line-end-requires
 print-line-end-requires c κs = search needs
 
+cast-print-months : tie.Need-cast-print-months
+cast-print-months c = search needs
+
+cast-print-months-2 : tie.Need-cast-print-months-2
+cast-print-months-2 c = search needs
+
 print-months-requires : tie.Need-print-months-requires
 print-months-requires c κs = search needs
 
@@ -32,7 +38,7 @@ print-refusal-requires : tie.Need-print-refusal-requires
 print-refusal-requires c κs = search needs
 
 returns : tie.Need-returns
-returns c = year-told _ _ _ (c .before .before .before .before .before .before .before .year-of .ensures)
+returns c = year-told _ _ _ (c .before .before .before .before .before .before .before .before .before .year-of .ensures)
 
 returns-2 : tie.Need-returns-2
 returns-2 c = year-told _ _ _ (c .before .before .before .year-of .ensures)
@@ -48,6 +54,8 @@ print-year-spec =
     cast-print-head-2
     print-head-requires
     print-line-end-requires
+    cast-print-months
+    cast-print-months-2
     print-months-requires
     print-refusal-requires
     returns
