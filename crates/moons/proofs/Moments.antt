@@ -2,12 +2,10 @@
 use Prim.Native.Nat.{ℕ, _+_, _<_, _≤_, _^_}
 use native.Mathlib.Nat.{mod-lt}
 use native.Mathlib.Omega.{arith}
-use Rattle.units.specs.Units.{wholeDays}
-use Rattle.senmyo.specs.Phases.{fullMoonFen}
 use Rattle.months.specs.declared.Calendar.{Calendar}
 use Rattle.months.specs.declared.Calendar.the-variants.{Senmyo, Genka}
 use Rattle.months.specs.declared.Moment.{Moment}
-use Rattle.months.specs.Rules.{Rules, senmyo, rulesOf}
+use Rattle.months.specs.Rules.{Rules, rulesOf}
 use Rattle.months.specs.Room.{Covering}
 use Rattle.months.proofs.Moments.{dayOf, moon-days}
 use Rattle.months.proofs.CoveredYears.{edges, its-days, starts-covered, ends-covered}
@@ -53,14 +51,3 @@ module _ (c : Calendar) (k : ℕ) (h : Covering (rulesOf c) k) where
   full-dated =
       let days = moon-days c k in
       dated (rulesOf c) (rulesOf c .fullMoon k) (full-units c k) (omega (arith, days .full-from, from-start)) (omega (arith, days .full-to, to-end))
-
--- the day of Senmyo's full moon has a day number
-pub record Numbered (d : ℕ) : Type 0 where
-  pub from : senmyo .dayZero ≤ d
-  pub to : d < senmyo .dayZero + 2 ^ 22
-
-pub full-numbered : (k : ℕ) → Covering senmyo k → Numbered (wholeDays (fullMoonFen k))
-unfolding rulesOf
-full-numbered k h =
-    let t = full-dated Senmyo k h in
-    record { from = t .after-zero; to = omega (arith, t .after-zero, t .datable .to) }
