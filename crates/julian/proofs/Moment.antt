@@ -1,6 +1,5 @@
 -- The numerator of a moment lies from 1 to 2^22 days, so that its Julian date is near.
-use mathlib.Core.Path.{_≡_}
-use Prim.Native.Nat.{ℕ, _+_, _*_, _%_, _^_, _≤_}
+use Prim.Native.Nat.{ℕ, _+_, _*_, _^_, _≤_}
 use native.Mathlib.Nat.{mul-le-mul-right}
 use native.Mathlib.Omega.{arith}
 use Rattle.julian.specs.Julian.{numerator, instant, Near}
@@ -10,10 +9,6 @@ use Rattle.julian.proofs.Nearness.{near}
 -- the parts of the days gone
 pub days-gone : (day part ofDay : ℕ) → Datable day part ofDay → (2 * ofDay ≤ day * ofDay) × (day * ofDay + ofDay ≤ 2 ^ 22 * ofDay)
 days-gone day part ofDay h = omega (arith, mul-le-mul-right ofDay (h .from), mul-le-mul-right ofDay (h .to))
-
--- with the half day put back, the numerator is the days and the part of the day: its subtraction never stops at zero
-pub half-day-off : (day part ofDay : ℕ) → Datable day part ofDay → ofDay % 2 ≡ 0 → 2 * numerator day part ofDay + ofDay ≡ 2 * (day * ofDay + part)
-half-day-off day part ofDay h even = omega (arith, days-gone day part ofDay h)
 
 -- a Julian date is near the fraction it stands for
 pub instant-near : (day part ofDay : ℕ) → Datable day part ofDay → Near (numerator day part ofDay) ofDay (instant day part ofDay)

@@ -15,7 +15,7 @@ use Rattle.senmyo.proofs.Worked.{sunAt, moonAt, dayAt}
 use Rattle.months.specs.Rules.{senmyo, genka, rulesOf}
 use Rattle.months.proofs.Calendars.{senmyo-steady, genka-steady}
 use Rattle.months.proofs.Figures.{month-with}
-use Rattle.moons.specs.Eclipses.{fullMoonIn, eclipseOf}
+use Rattle.moons.specs.Eclipses.{fullMoonAt, eclipseOf}
 use Rattle.moons.specs.Instants.{instantIn, newMoonOf, fullMoonOf}
 
 -- ---- eclipses
@@ -24,7 +24,7 @@ use Rattle.moons.specs.Instants.{instantIn, newMoonOf, fullMoonOf}
 eclipse-1522 : eclipseOf 1 1522 2 false ≡
     given
     (record { day = 2277039; fen = fen 6215; side = Yin; distance = fen 2241 }, record { kind = partial; parts = 14; remainder = 412; strong = true })
-unfolding eclipseOf rulesOf fullMoonIn dayAt sunAt moonAt corrections fullMoon nodePlaceAt nodePlace modulo nodeOf distanceOf gradeOf
+unfolding eclipseOf rulesOf fullMoonAt dayAt sunAt moonAt corrections fullMoon nodePlaceAt nodePlace modulo nodeOf distanceOf gradeOf
 eclipse-1522 = rw (month-with senmyo senmyo-steady 87454579 (senmyo .rainWater 1522 + 1) tt)
 
 -- Genka gives 13 whatever the year and the month, and no other calendar does

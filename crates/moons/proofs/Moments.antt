@@ -1,7 +1,9 @@
 -- The moons of a covered month have Julian dates: they stand near its first day.
-use Prim.Native.Nat.{ℕ, _+_, _<_, _≤_, _^_}
+use mathlib.Core.Path.{_≡_}
+use Prim.Native.Nat.{ℕ, _+_, _*_, _<_, _≤_, _^_}
 use native.Mathlib.Nat.{mod-lt}
 use native.Mathlib.Omega.{arith}
+use Rattle.julian.specs.Julian.{numerator}
 use Rattle.months.specs.declared.Calendar.{Calendar}
 use Rattle.months.specs.declared.Calendar.the-variants.{Senmyo, Genka}
 use Rattle.months.specs.declared.Moment.{Moment}
@@ -9,7 +11,10 @@ use Rattle.months.specs.Rules.{Rules, rulesOf}
 use Rattle.months.specs.Room.{Covering}
 use Rattle.months.proofs.Moments.{dayOf, moon-days}
 use Rattle.months.proofs.CoveredYears.{edges, its-days, starts-covered, ends-covered}
-use Rattle.moons.specs.Room.{Dated}
+use Rattle.moons.specs.declared.Phase.{Phase}
+use Rattle.moons.specs.declared.Phase.the-variants.{New, Full}
+use Rattle.moons.specs.Instants.{dayIn, partIn}
+use Rattle.moons.specs.Room.{momentIn, Dated}
 
 -- units of a day: some, and few
 record Units (t : Moment) : Type 0 where
@@ -51,3 +56,23 @@ module _ (c : Calendar) (k : ℕ) (h : Covering (rulesOf c) k) where
   full-dated =
       let days = moon-days c k in
       dated (rulesOf c) (rulesOf c .fullMoon k) (full-units c k) (omega (arith, days .full-from, from-start)) (omega (arith, days .full-to, to-end))
+
+  pub moon-dated : (phase : Phase) → Dated (rulesOf c) (momentIn phase (rulesOf c) k)
+  moon-dated New = new-dated
+  moon-dated Full = full-dated
+
+-- ---- the numerator of an instant, over whole numbers
+
+-- it is the moment less the days up to day number 0 and half a day: nothing is cut off on the way
+pub record Exact (r : Rules) (t : Moment) : Type 0 where
+  pub doubled : 2 * numerator (dayIn r t) (partIn t) (t .«of_day») + (2 * r .dayZero + 1) * t .«of_day» ≡ 2 * t .units
+
+pub new-exact : (c : Calendar) (k : ℕ) → Covering (rulesOf c) k → Exact (rulesOf c) (rulesOf c .newMoon k)
+unfolding rulesOf
+new-exact Senmyo k h = let t = new-dated Senmyo k h in record { doubled = omega (arith, t .after-zero, t .datable .from) }
+new-exact Genka k h = let t = new-dated Genka k h in record { doubled = omega (arith, t .after-zero, t .datable .from) }
+
+pub full-exact : (c : Calendar) (k : ℕ) → Covering (rulesOf c) k → Exact (rulesOf c) (rulesOf c .fullMoon k)
+unfolding rulesOf
+full-exact Senmyo k h = let t = full-dated Senmyo k h in record { doubled = omega (arith, t .after-zero, t .datable .from) }
+full-exact Genka k h = let t = full-dated Genka k h in record { doubled = omega (arith, t .after-zero, t .datable .from) }

@@ -12,8 +12,8 @@ use Rattle.asked.specs.Asked.{isCalendar, rulesFor, isCovered, monthNamed, hasM
 use Rattle.moons.specs.declared.FullMoon.{FullMoon}
 
 -- the full moon of month k: its day and fen, never put back a day, and the side and distance from the node
-unfoldable pub fullMoonIn : ℕ → FullMoon
-fullMoonIn k =
+unfoldable pub fullMoonAt : ℕ → FullMoon
+fullMoonAt k =
     record {
       day = dayNumber senmyo (wholeDays (fullMoonFen k));
       fen = fenOfDay (fullMoonFen k);
@@ -23,7 +23,7 @@ fullMoonIn k =
 
 -- .. and then none, total, or partial
 abbrev pub eclipseIn : ℕ → FullMoon × Graded
-eclipseIn k = (fullMoonIn k, gradeOf (fullMoonIn k .distance))
+eclipseIn k = (fullMoonAt k, gradeOf (fullMoonAt k .distance))
 
 -- refusal 13: "eclipse asked of Genka"
 abbrev pub isSenmyo : ℕ → Bool

@@ -1,13 +1,26 @@
 -- What inner functions find, and what they ask of their callers, which have made sure of it. No rule of the calendar.
-use Prim.Native.Nat.{_/_, _≤_}
+use mathlib.Core.Bool.{Bool}
+use Prim.Native.Nat.{ℕ, _/_, _≤_}
+use lib.Ieee.{Float}
+use Rattle.numbers.specs.Answer.{Answer}
 use Rattle.julian.specs.Room.{Datable}
 use Rattle.months.specs.declared.Moment.{Moment}
 use Rattle.months.specs.Rules.{Rules}
 use Rattle.moons.specs.declared.DayPart.{DayPart}
-use Rattle.moons.specs.Instants.{dayIn, partIn}
+use Rattle.moons.specs.declared.Phase.{Phase}
+use Rattle.moons.specs.declared.Phase.the-variants.{New, Full}
+use Rattle.moons.specs.Instants.{dayIn, partIn, instantIn, ofMonth}
 
 abbrev pub dayPart : Rules → Moment → DayPart
 dayPart r t = record { day = dayIn r t; part = partIn t }
+
+-- either moon of a month, and what a call answers for it
+abbrev pub momentIn : Phase → Rules → ℕ → Moment
+momentIn New r k = r .newMoon k
+momentIn Full r k = r .fullMoon k
+
+abbrev pub phaseOf : Phase → ℕ → ℕ → ℕ → Bool → Answer Float
+phaseOf phase c y m leap = ofMonth (λ r k. instantIn r (momentIn phase r k)) c y m leap
 
 -- a moment after day number 0 that has a Julian date
 pub record Dated (r : Rules) (t : Moment) : Type 0 where

@@ -1,10 +1,10 @@
 ghost use mathlib.Core.Path.{_≡_};
 ghost use Rattle.months.specs.Rules.{senmyo, rulesOf};
 ghost use Rattle.months.specs.Room.{Covering};
-ghost use Rattle.moons.specs.Eclipses.{fullMoonIn, eclipseOf};
+ghost use Rattle.moons.specs.Eclipses.{fullMoonAt, eclipseOf};
 ghost use Rattle.moons.specs.Instants.{instantIn, newMoonOf, fullMoonOf, moonsOf};
 ghost use Rattle.moons.specs.Answers.{eclipseMeans, instantMeans, moonsMeans};
-ghost use Rattle.moons.specs.Room.{dayPart, Dated};
+ghost use Rattle.moons.specs.Room.{dayPart, momentIn, phaseOf, Dated};
 use asked::MonthAsked;
 use eclipse::Grade;
 use eclipse::Side;
@@ -43,6 +43,12 @@ pub enum MoonsAnswer {
     Refused(u8),
 }
 
+// One of the two moons of a month.
+enum Phase {
+    New,
+    Full,
+}
+
 // A moment's day number, and the units of that day gone.
 struct DayPart {
     day: u32,
@@ -59,9 +65,9 @@ fn day_part(calendar: Calendar, moment: Moment) -> DayPart
     }
 }
 
-fn full_moon_in(month: u32) -> FullMoon
+fn full_moon_at(month: u32) -> FullMoon
     requires { ⌜ Covering senmyo month ⌝ }
-    ensures { λ r. ⌜ r ≡ fullMoonIn month ⌝ }
+    ensures { λ r. ⌜ r ≡ fullMoonAt month ⌝ }
 {
     let at = day_part(Calendar::Senmyo, months::full_moon(Calendar::Senmyo, month));
     let node = senmyo::node(month);
@@ -86,7 +92,7 @@ pub fn eclipse_of(calendar: u64, year: u64, month: u64, leap: bool) -> EclipseAn
     let MonthAsked::Found(_, span) = asked else {
         return EclipseAnswer::Refused(asked::month_refusal(asked));
     };
-    let moon = full_moon_in(span.month);
+    let moon = full_moon_at(span.month);
     EclipseAnswer::FullMoon(moon, eclipse::grade_of(moon.distance))
 }
 
@@ -99,26 +105,37 @@ fn instant_of(calendar: Calendar, moment: Moment) -> f64
     julian::julian_date(at.day, at.part, moment.of_day)
 }
 
-// The new moon of a month.
-pub fn new_moon_of(calendar: u64, year: u64, month: u64, leap: bool) -> Instant
-    ensures { λ r. ⌜ instantMeans r ≡ newMoonOf calendar year month leap ⌝ }
+fn moment_of(calendar: Calendar, month: u32, phase: Phase) -> Moment
+    ensures { λ r. ⌜ r ≡ momentIn phase (rulesOf calendar) month ⌝ }
+{
+    match phase {
+        Phase::New => months::new_moon(calendar, month),
+        Phase::Full => months::full_moon(calendar, month),
+    }
+}
+
+fn phase_of(calendar: u64, year: u64, month: u64, leap: bool, phase: Phase) -> Instant
+    ensures { λ r. ⌜ instantMeans r ≡ phaseOf phase calendar year month leap ⌝ }
 {
     let asked = asked::asked_month(calendar, year, month, leap);
     let MonthAsked::Found(known, span) = asked else {
         return Instant::Refused(asked::month_refusal(asked));
     };
-    Instant::At(instant_of(known, months::new_moon(known, span.month)))
+    Instant::At(instant_of(known, moment_of(known, span.month, phase)))
+}
+
+// The new moon of a month.
+pub fn new_moon_of(calendar: u64, year: u64, month: u64, leap: bool) -> Instant
+    ensures { λ r. ⌜ instantMeans r ≡ newMoonOf calendar year month leap ⌝ }
+{
+    phase_of(calendar, year, month, leap, Phase::New)
 }
 
 // The full moon of a month.
 pub fn full_moon_of(calendar: u64, year: u64, month: u64, leap: bool) -> Instant
     ensures { λ r. ⌜ instantMeans r ≡ fullMoonOf calendar year month leap ⌝ }
 {
-    let asked = asked::asked_month(calendar, year, month, leap);
-    let MonthAsked::Found(known, span) = asked else {
-        return Instant::Refused(asked::month_refusal(asked));
-    };
-    Instant::At(instant_of(known, months::full_moon(known, span.month)))
+    phase_of(calendar, year, month, leap, Phase::Full)
 }
 
 // Both moons of a month.

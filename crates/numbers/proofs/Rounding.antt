@@ -1,8 +1,8 @@
--- Laws of `floor` and `nearest`: they are what their names say, they keep the order, and along a line they stay between the ends.
-use mathlib.Core.Path.{_≡_, refl, sym}
+-- Laws of `floor`, `nearest` and `modulo`: they are what their names say, they keep the order, and along a line they stay between the ends.
+use mathlib.Core.Path.{_≡_, refl, sym, ap}
 use mathlib.Core.List.{[], _∷_, map}
 use mathlib.Core.Bool.{Bool, _&&_}
-use Prim.Native.Nat.{ℕ, suc, _+_, _*_, _/_, _%_, _<_, _≤_}
+use Prim.Native.Nat.{ℕ, suc, _+_, _-_, _*_, _/_, _%_, _<_, _≤_}
 use native.Mathlib.Nat.{add-mul, suc-mul, mul-le-mul-left, one-mul, zero-mul, mod-lt, div-add-mod', div-mul-le-self, le-div-iff-mul-le, le-trans, mod-eq-of-lt, add-mod-left}
 use native.Mathlib.Omega.{arith}
 use lib.Dec.{T, leb→le, le→leb}
@@ -12,7 +12,7 @@ use mir.Facts.{and-yes}
 use Rattle.numbers.specs.Sign.{plus, minus}
 use Rattle.numbers.specs.Rounding.{floor, nearest, modulo}
 use Rattle.numbers.specs.Difference.{Is, Difference}
-use Rattle.numbers.proofs.Difference.{is-pos, is-neg, is-add, is-mul, is-parts, is-sub}
+use Rattle.numbers.proofs.Difference.{is-pos, is-neg, is-add, is-mul, is-parts, is-sub, is-same}
 use Rattle.numbers.proofs.Order.{is-le, le-is, ≤ℤ-trans}
 
 div-mono : {m n : ℕ} (d : ℕ) → 0 < d → m ≤ n → m / d ≤ n / d
@@ -97,6 +97,14 @@ modulo-of (negsuc m) n d e = rw (mod-eq-of-lt {n = m} {m = d} (omega arith), mod
 -- a number that is n less d leaves what n does
 pub modulo-told : {z : ℤ} {n d : ℕ} → Is z n d → modulo z d ≡ n % d
 modulo-told {z} {n} {d} h = modulo-of z n d (h .difference)
+
+-- floor and modulo take a number apart
+pub floor-and-modulo : (z : ℤ) (d : ℕ) → 0 < d → pos (modulo z d) +ℤ floor z d *ℤ pos d ≡ z
+unfolding modulo
+floor-and-modulo (pos n) d p = ap pos (omega (arith, div-add-mod' n d))
+floor-and-modulo (negsuc n) d p =
+    is-same (is-add (is-pos (d - 1 - n % d)) (is-neg (is-pos (suc (n / d) * d)))) (is-neg (is-pos (suc n)))
+    (omega (arith, suc-mul (n / d) d, div-add-mod' n d, mod-lt n p))
 
 modulo-under : (z : ℤ) (d : ℕ) → 0 < d → modulo z d < d
 unfolding modulo

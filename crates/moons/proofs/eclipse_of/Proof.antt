@@ -35,8 +35,8 @@ returns-2 c =
 month-asked : (c : tie.After-known-told) → monthAsked (c .before .before .before .before .before .args .calendar) (c .before .before .before .before .before .args .year) (c .before .before .before .before .before .args .month) (c .before .before .before .before .before .args .leap) ≡ given (c .before .asked .given .0 .0, c .before .asked .given .0 .1 .0)
 month-asked c = sym (c .before .before .before .asked-month .ensures) ∙ ap monthMeans (c .before .asked .given .1)
 
-full-moon-in-requires : tie.Need-full-moon-in-requires
-full-moon-in-requires c κs = senmyo-found _ _ _ _ _ _ (c .before .before .before .before .if1 .left) (month-asked c)
+full-moon-at-requires : tie.Need-full-moon-at-requires
+full-moon-at-requires c κs = senmyo-found _ _ _ _ _ _ (c .before .before .before .before .if1 .left) (month-asked c)
 
 grade-of-requires : tie.Need-grade-of-requires
 grade-of-requires c κs = search needs
@@ -44,7 +44,7 @@ grade-of-requires c κs = search needs
 returns-3 : tie.Need-returns-3
 returns-3 c =
     let found = c .before .before in
-    rw (c .grade-of .ensures, c .before .full-moon-in .ensures)
+    rw (c .grade-of .ensures, c .before .full-moon-at .ensures)
     (sym (not-genka _ _ _ _ (found .before .before .before .before .if1 .left) ∙ of-found (λ r k. eclipseIn k) _ _ _ _ _ _ (month-asked found)))
 
 pub eclipse-of-spec : {M : Type 1} → statement M
@@ -57,6 +57,6 @@ eclipse-of-spec =
     enum-told
     month-refusal-requires
     returns-2
-    full-moon-in-requires
+    full-moon-at-requires
     grade-of-requires
     returns-3)

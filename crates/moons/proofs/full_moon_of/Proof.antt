@@ -1,65 +1,15 @@
--- `moons::full_moon_of` meets its contract: a month that is found is covered, so that its full moon has a Julian date.
-use mathlib.Core.Path.{_≡_, sym, ap, _∙_}
+-- `moons::full_moon_of` meets its contract: it asks for the full moon.
 use borrow.Author.Needs.{needs}
-use Rattle.numbers.specs.Answer.{given, refusalIn}
-use Rattle.months.specs.Rules.{rulesOf}
-use Rattle.months.specs.Room.{Covering}
-use Rattle.asked.specs.Asked.{monthAsked}
-use Rattle.asked.specs.Answers.{monthMeans}
-use Rattle.asked.proofs.Covered.{asked-span}
-use Rattle.moons.specs.Instants.{fullMoonIn, fullMoonOf}
-use Rattle.moons.proofs.Steps.{of-refused, of-found}
-use Rattle.moons.proofs.Moments.{full-dated}
+use Rattle.moons.specs.Instants.{fullMoonOf}
 use Rattle.moons.proofs.full_moon_of.Statement.{statement}
 use Rattle.moons.proofs.full_moon_of.Tie as tie
 
-asked-month-requires : tie.Need-asked-month-requires
-asked-month-requires c κs = search needs
-
-enum-known-asked : tie.Need-enum-known-asked
-enum-known-asked c = search needs
-
-enum-told : tie.Need-enum-told
-enum-told c = search needs
-
-month-refusal-requires : tie.Need-month-refusal-requires
-month-refusal-requires c κs = search needs
+phase-of-requires : tie.Need-phase-of-requires
+phase-of-requires c κs = search needs
 
 returns : tie.Need-returns
 unfolding fullMoonOf
-returns c =
-    let told = c .before .enum-told .given in
-    let number : c .month-refusal .result ≡ told .0 .0 = c .month-refusal .ensures ∙ ap (λ a. refusalIn (monthMeans a)) (told .1) in
-    rw number (sym (of-refused fullMoonIn _ _ _ _ (told .0 .0) (sym (c .before .before .before .asked-month .ensures) ∙ ap monthMeans (told .1))))
-
--- the month that was asked for, once it is found
-month-asked : (c : tie.After-known-told) → monthAsked (c .before .before .before .before .args .calendar) (c .before .before .before .before .args .year) (c .before .before .before .before .args .month) (c .before .before .before .before .args .leap) ≡ given (c .before .asked .given .0 .0, c .before .asked .given .0 .1 .0)
-month-asked c = sym (c .before .before .before .asked-month .ensures) ∙ ap monthMeans (c .before .asked .given .1)
-
-covered : (c : tie.After-known-told) → Covering (rulesOf (c .before .asked .given .0 .0)) (c .before .asked .given .0 .1 .0 .month)
-covered c = asked-span _ _ _ _ _ _ (month-asked c) .covering
-
-full-moon-requires : tie.Need-full-moon-requires
-full-moon-requires c κs = search needs
-
-instant-of-requires : tie.Need-instant-of-requires
-instant-of-requires c κs = rw (c .full-moon .ensures) (full-dated _ _ (covered (c .before)))
-
-returns-2 : tie.Need-returns-2
-unfolding fullMoonOf
-returns-2 c =
-    let told = rw (c .before .full-moon .ensures) at (c .instant-of .ensures) in
-    ap given told ∙ sym (of-found fullMoonIn _ _ _ _ _ _ (month-asked (c .before .before)))
+returns c = c .phase-of .ensures
 
 pub full-moon-of-spec : {M : Type 1} → statement M
-full-moon-of-spec =
-    tie.close
-    (tie.spec
-    asked-month-requires
-    enum-known-asked
-    enum-told
-    month-refusal-requires
-    returns
-    full-moon-requires
-    instant-of-requires
-    returns-2)
+full-moon-of-spec = tie.close (tie.spec phase-of-requires returns)
