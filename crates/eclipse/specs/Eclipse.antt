@@ -25,11 +25,11 @@ byoToNodeSeconds b = nodeSeconds (b .0 * 1250)
 
 -- the node's period, 228,582.6512 fen
 abbrev pub period : NodeSecond
-period = nodeSeconds 2285826512
+period = nodeSeconds 228582_6512
 
 -- half is 114,291.3256
 abbrev pub half : NodeSecond
-half = nodeSeconds 1142913256
+half = nodeSeconds 114291_3256
 
 -- the Moon's correction × 202/2573, rounded, in fen
 abbrev pub moonShare : ℤ → ℤ

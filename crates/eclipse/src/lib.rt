@@ -13,7 +13,7 @@ const NODE_SECONDS_OF_FEN: u64 = 10_000;
 const NODE_SECONDS_OF_BYO: u64 = NODE_SECONDS_OF_FEN / BYO_OF_FEN;
 
 // The node's period, 228,582.6512 fen, and half of it.
-const PERIOD: u64 = 2_285_826_512;
+const PERIOD: u64 = 228582_6512;
 
 const HALF: u64 = PERIOD / 2;
 
