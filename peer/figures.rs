@@ -1,4 +1,5 @@
-//! The figures worked in the rules, each beside what the peer makes of it.
+//! The figures worked in the rules, and some known besides, such as the number
+//! of eclipses, each beside what the peer makes of it.
 
 use crate::calendar::{cycle_number, Calendar};
 use crate::months::{self, Month, Year};

@@ -16,7 +16,7 @@ const MID_TERMS: i64 = 7_296;
 const NEW_MOONS_SPAN: i64 = 22_207;
 const NEW_MOONS: i64 = 752;
 
-const MONTH: HalfParts = HalfParts(44_414);
+const MONTH: HalfParts = HalfParts(2 * NEW_MOONS_SPAN);
 
 pub fn rain_water(year: i64) -> i64 {
     12 * (year + YEARS_BEFORE_YEAR_ZERO)
@@ -31,7 +31,7 @@ pub fn mid_term_day(mid_term: i64) -> i64 {
 }
 
 pub fn first_day(new_moon: i64) -> i64 {
-    day_number((NEW_MOONS_SPAN * new_moon).div_euclid(NEW_MOONS))
+    day_number(self::new_moon(new_moon).whole_days())
 }
 
 pub fn new_moon(new_moon: i64) -> HalfParts {

@@ -1,4 +1,4 @@
--- What is asked for and found is covered, and covered months and days fit their words.
+-- What is asked for and found is covered, and a covered month fits its words.
 use mathlib.Core.Path.{_≡_, refl, ap, subst}
 use mathlib.Core.Bool.{Bool, true, false, and-eq-true-iff}
 use Prim.Native.Nat.{ℕ, _+_, _<_, _≤_, _^_}
@@ -17,7 +17,7 @@ use Rattle.months.proofs.Calendars.{steady}
 use Rattle.months.proofs.CoveredYears.{covered-year, edges, its-days, starts-covered, ends-covered, covering}
 use Rattle.asked.specs.Room.{CoveredYear, CoveredSpan}
 use Rattle.asked.proofs.Steps.{in-time, regular-there}
-use Rattle.asked.proofs.Refusals.{asked-given, month-given}
+use Rattle.asked.proofs.Given.{asked-given, month-given}
 use Rattle.asked.proofs.Names.{Named, named}
 use Rattle.asked.specs.Asked.{numbered, rulesFor, isCovered, regularMonth, hasMonth, monthNamed, yearAsked, monthAsked}
 

@@ -1,5 +1,5 @@
 pub mod Steps
-pub mod Refusals
+pub mod Given
 pub mod Names
 pub mod Covered
 pub mod OneAnswer

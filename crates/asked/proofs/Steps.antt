@@ -1,4 +1,4 @@
--- The calls' definitions, step by step as the code takes them.
+-- What is asked for, step by step as the code finds it.
 use mathlib.Core.Path.{_≡_, sym, ap, _∙_}
 use mathlib.Core.Bool.{Bool, true, false}
 use Prim.Native.Nat.{ℕ, _+_, _-_, _<_, _≤_}

@@ -1,4 +1,4 @@
--- What is asked for and found is covered, and covered months and days fit their words.
+-- Covered days as tests tell them, and the months and days of a covered year in round numbers.
 use mathlib.Core.Path.{_≡_, refl}
 use mathlib.Core.Bool.{true, and-eq-true-iff}
 use Prim.Native.Nat.{ℕ, _+_, _*_, _≤_}

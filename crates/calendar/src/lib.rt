@@ -9,6 +9,9 @@ ghost use Rattle.calendar.specs.Room.{CoveredDay, CoveredMonths, listedA
 use asked::CalendarAsked;
 use asked::MonthAsked;
 use asked::YearAsked;
+pub use eclipse::Grade;
+pub use eclipse::Share;
+pub use eclipse::Side;
 use months::Calendar;
 use months::Span;
 pub use moons::EclipseAnswer;

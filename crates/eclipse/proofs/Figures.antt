@@ -2,10 +2,10 @@
 use mathlib.Core.Path.{_≡_, refl}
 use mathlib.Core.Bool.{true, false}
 use Rattle.units.specs.Units.{fen}
-use Rattle.eclipse.specs.Eclipse.{partial, noEclipse, totalEclipse, gradeOf}
+use Rattle.eclipse.specs.Eclipse.{none, total, partial, gradeOf}
 
 -- 2147 is total, 2148 is 14 parts strong
-total-at-2147 : gradeOf (fen 2147) ≡ totalEclipse
+total-at-2147 : gradeOf (fen 2147) ≡ record { kind = total; parts = 15; remainder = 0; strong = false }
 unfolding gradeOf
 total-at-2147 = refl
 
@@ -18,7 +18,7 @@ partial-at-9736 : gradeOf (fen 9736) ≡ record { kind = partial; parts = 0; rem
 unfolding gradeOf
 partial-at-9736 = refl
 
-none-at-9737 : gradeOf (fen 9737) ≡ noEclipse
+none-at-9737 : gradeOf (fen 9737) ≡ record { kind = none; parts = 0; remainder = 0; strong = false }
 unfolding gradeOf
 none-at-9737 = refl
 

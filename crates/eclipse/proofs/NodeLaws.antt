@@ -64,7 +64,7 @@ place-told mean sun moon n e =
 -- the place is within the period
 pub place-within : (mean : Byo) (sun moon : ℤ) → nodePlace mean sun moon .0 < period .0
 unfolding nodePlace
-place-within mean sun moon = modulo-below _ (omega arith)
+place-within mean sun moon = modulo-below _ _ (omega arith)
 
 -- ---- the distance
 
@@ -72,18 +72,18 @@ rounded : (n : ℕ) → nearest (pos n) fenNodeSeconds ≡ pos ((n + 5000) / 100
 unfolding nearest
 rounded n = ap pos (omega arith)
 
-pub distance-near : (n : ℕ) → n < half .0 - n → fen ((n + 5000) / 10000) ≡ distanceOf n
+pub distance-near : (p : NodeSecond) → p .0 < half .0 - p .0 → fen ((p .0 + 5000) / 10000) ≡ distanceOf p
 unfolding distanceOf
-distance-near n h = rw (rounded (min n (half .0 - n))) (ap fen (omega arith))
+distance-near p h = rw (rounded (min (p .0) (half .0 - p .0))) (ap fen (omega arith))
 
-pub distance-far : (n : ℕ) → half .0 - n ≤ n → fen ((half .0 - n + 5000) / 10000) ≡ distanceOf n
+pub distance-far : (p : NodeSecond) → half .0 - p .0 ≤ p .0 → fen ((half .0 - p .0 + 5000) / 10000) ≡ distanceOf p
 unfolding distanceOf
-distance-far n h = rw (rounded (min n (half .0 - n))) (ap fen (omega arith))
+distance-far p h = rw (rounded (min (p .0) (half .0 - p .0))) (ap fen (omega arith))
 
 -- ---- the side
 
 abbrev sided : NodeSecond → Bool → Node
-sided place yin = record { side = elim yin [ true ↦ Yin | false ↦ Yang ]; distance = distanceOf (elim yin [ true ↦ place .0 - half .0 | false ↦ place .0 ]) }
+sided place yin = record { side = elim yin [ true ↦ Yin | false ↦ Yang ]; distance = distanceOf (nodeSeconds (elim yin [ true ↦ place .0 - half .0 | false ↦ place .0 ])) }
 
 pub node-yin : (place : NodeSecond) → half .0 < place .0 → nodeOf place ≡ sided place true
 unfolding nodeOf

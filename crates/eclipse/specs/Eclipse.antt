@@ -13,13 +13,14 @@ use Rattle.eclipse.specs.declared.Side.{Side}
 use Rattle.eclipse.specs.declared.Side.the-variants.{Yang, Yin}
 use Rattle.eclipse.specs.declared.Node.{Node}
 
--- a fen is 10,000 node seconds, a byo 1,250
+-- node seconds, a unit for the period's four places: 1/10,000 fen
 abbrev pub nodeSeconds : ℕ → NodeSecond
 nodeSeconds n = record { 0 = n }
 
 abbrev pub fenNodeSeconds : ℕ
 fenNodeSeconds = 10000
 
+-- .. of which a byo is 1,250
 abbrev pub byoToNodeSeconds : Byo → NodeSecond
 byoToNodeSeconds b = nodeSeconds (b .0 * 1250)
 
@@ -48,12 +49,12 @@ abbrev pub sideOf : NodeSecond → Side
 sideOf place = elim (isYin place) [ true ↦ Yin | false ↦ Yang ]
 
 -- .. less that half if yin
-abbrev pub inHalf : NodeSecond → ℕ
-inHalf place = elim (isYin place) [ true ↦ place .0 - half .0 | false ↦ place .0 ]
+abbrev pub inHalf : NodeSecond → NodeSecond
+inHalf place = nodeSeconds (elim (isYin place) [ true ↦ place .0 - half .0 | false ↦ place .0 ])
 
 -- distance is the lesser of place-in-half and half less it, rounded
-unfoldable pub distanceOf : ℕ → Fen
-distanceOf n = fen (whole (nearest (pos (min n (half .0 - n))) fenNodeSeconds))
+unfoldable pub distanceOf : NodeSecond → Fen
+distanceOf n = fen (whole (nearest (pos (min (n .0) (half .0 - n .0))) fenNodeSeconds))
 
 unfoldable pub nodeOf : NodeSecond → Node
 nodeOf place = record { side = sideOf place; distance = distanceOf (inHalf place) }
@@ -61,7 +62,7 @@ nodeOf place = record { side = sideOf place; distance = distanceOf (inHalf place
 pub data Kind : Type 0 where
   none total partial : Kind
 
--- what a distance gives: none, total or partial, parts, remainder, and strong or not
+-- what a distance gives: the kind, parts, remainder, and strong or not
 pub record Graded : Type 0 where
   pub kind : Kind
   pub parts : ℕ

@@ -49,7 +49,7 @@ pub enum Grade {
     Partial(Share),
 }
 
-pub fn byo_to_node_seconds(b: Byo) -> NodeSecond
+fn byo_to_node_seconds(b: Byo) -> NodeSecond
     requires { ⌜ b .0 * 1250 < 2 ^ 64 ⌝ }
     ensures { λ r. ⌜ r ≡ byoToNodeSeconds b ⌝ }
 {
@@ -73,14 +73,14 @@ pub fn node_place(mean: Byo, sun: i64, moon: i64) -> NodeSecond
     NodeSecond(((past + PERIOD) as i64 + correction * (NODE_SECONDS_OF_FEN as i64)) as u64 % PERIOD)
 }
 
-// The distance from the nearer end of the half in which a place is.
-fn distance_of(in_half: u64) -> Fen
-    requires { ⌜ in_half ≤ half .0 ⌝ }
-    ensures { λ r. ⌜ r ≡ distanceOf in_half ⌝ }
+// The distance of a place in half a period from the nearer end of it.
+fn distance_of(place: NodeSecond) -> Fen
+    requires { ⌜ place .0 ≤ half .0 ⌝ }
+    ensures { λ r. ⌜ r ≡ distanceOf place ⌝ }
 {
-    let rest = HALF - in_half;
-    if in_half < rest {
-        Fen((in_half + NODE_SECONDS_OF_FEN / 2) / NODE_SECONDS_OF_FEN)
+    let rest = HALF - place.0;
+    if place.0 < rest {
+        Fen((place.0 + NODE_SECONDS_OF_FEN / 2) / NODE_SECONDS_OF_FEN)
     } else {
         Fen((rest + NODE_SECONDS_OF_FEN / 2) / NODE_SECONDS_OF_FEN)
     }
@@ -94,12 +94,12 @@ pub fn node_of(place: NodeSecond) -> Node
     if HALF < place.0 {
         Node {
             side: Side::Yin,
-            distance: distance_of(place.0 - HALF),
+            distance: distance_of(NodeSecond(place.0 - HALF)),
         }
     } else {
         Node {
             side: Side::Yang,
-            distance: distance_of(place.0),
+            distance: distance_of(place),
         }
     }
 }

@@ -3,7 +3,7 @@ use mathlib.Core.Path.{_≡_}
 use Prim.Native.Nat.{ℕ, _+_, _*_, _/_, _<_, _≤_}
 use native.Mathlib.Omega.{arith}
 use Rattle.numbers.specs.Spans.{Takes}
-use Rattle.genka.specs.Genka.{dayParts, newMoonDay, fullMoon, midTermDay, yearsSinceOrigin, rainWater}
+use Rattle.genka.specs.Genka.{dayHalfParts, newMoon, newMoonDay, fullMoon, midTermDay, yearsSinceOrigin, rainWater}
 use Rattle.genka.specs.Room.{meanMonth}
 
 -- the Rain Water of a year is at 222,070 k/608 days
@@ -30,10 +30,14 @@ opened-by-start d = omega arith
 pub second-opens-after : (d : ℕ) → d < newMoonDay (meanMonth d + 2)
 second-opens-after d = omega arith
 
+-- a full moon is midway between two new moons
+pub midway : (k : ℕ) → fullMoon k .0 ≡ newMoon k .0 + newMoon (k + 1) .0
+midway k = omega arith
+
 -- the full moon falls on the 15th or 16th day of its month
 pub record InMidst (k : ℕ) : Type 0 where
-  pub from : newMoonDay k + 14 ≤ fullMoon k .0 / (2 * dayParts)
-  pub to : fullMoon k .0 / (2 * dayParts) ≤ newMoonDay k + 15
+  pub from : newMoonDay k + 14 ≤ fullMoon k .0 / dayHalfParts
+  pub to : fullMoon k .0 / dayHalfParts ≤ newMoonDay k + 15
 
 pub full-moon-day : (k : ℕ) → InMidst k
 full-moon-day k = record { from = omega arith; to = omega arith }

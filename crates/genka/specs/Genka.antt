@@ -9,9 +9,16 @@ part n = record { 0 = n }
 abbrev pub halfPart : ℕ → HalfPart
 halfPart n = record { 0 = n }
 
+-- a part is 2 half parts
+abbrev pub partToHalfParts : Part → HalfPart
+partToHalfParts p = halfPart (p .0 * 2)
+
 -- a day has 752 parts
 abbrev pub dayParts : ℕ
 dayParts = 752
+
+abbrev pub dayHalfParts : ℕ
+dayHalfParts = 2 * dayParts
 
 -- new moons are 22,207/752 days apart: new moon j
 abbrev pub newMoon : ℕ → Part
@@ -21,9 +28,9 @@ newMoon j = part (22207 * j)
 abbrev pub newMoonDay : ℕ → ℕ
 newMoonDay j = newMoon j .0 / dayParts
 
--- the full moon is half a spacing later: of 22,207 parts, so many half parts
+-- the full moon is half a spacing later: half of 22,207 parts is 22,207 half parts
 abbrev pub fullMoon : ℕ → HalfPart
-fullMoon j = halfPart (2 * newMoon j .0 + newMoon 1 .0)
+fullMoon j = halfPart (partToHalfParts (newMoon j) .0 + 22207)
 
 -- mid-terms are 222,070/7,296 days apart: the day of mid-term j
 abbrev pub midTermDay : ℕ → ℕ

@@ -1,6 +1,7 @@
 ghost use mathlib.Core.Path.{_≡_};
+ghost use Prim.Native.Nat.{_*_, _<_, _^_};
 ghost use Rattle.numbers.specs.Spans.{Holds};
-ghost use Rattle.genka.specs.Genka.{newMoon, newMoonDay, fullMoon, midTermDay, rainWater};
+ghost use Rattle.genka.specs.Genka.{partToHalfParts, newMoon, newMoonDay, fullMoon, midTermDay, rainWater};
 ghost use Rattle.genka.specs.Room.{meanMonth};
 
 // 1/752 of a day.
@@ -13,7 +14,7 @@ pub struct HalfPart(pub u64);
 
 pub const HALF_PARTS_OF_DAY: u64 = 2 * PARTS_OF_DAY;
 
-// From a new moon to the next, in parts.
+// From a new moon to the next, in parts; half of that is as many half parts.
 const MONTH: u64 = 22207;
 
 // Mid-terms are 222,070/7,296 days apart.
@@ -35,11 +36,18 @@ pub fn new_moon_day(number: u32) -> u64
     new_moon(number).0 / PARTS_OF_DAY
 }
 
+pub fn part_to_half_parts(p: Part) -> HalfPart
+    requires { ⌜ p .0 * 2 < 2 ^ 64 ⌝ }
+    ensures { λ r. ⌜ r ≡ partToHalfParts p ⌝ }
+{
+    HalfPart(p.0 * 2)
+}
+
 // The full moon after new moon `number`, half a month later.
 pub fn full_moon(number: u32) -> HalfPart
     ensures { λ r. ⌜ r ≡ fullMoon number ⌝ }
 {
-    HalfPart(2 * new_moon(number).0 + MONTH)
+    HalfPart(part_to_half_parts(new_moon(number)).0 + MONTH)
 }
 
 // The last new moon by the start of a day.

@@ -1,5 +1,5 @@
 -- Where the two moons of a month stand: the new moon on its first day or, where that day was advanced, on its eve; the full moon on the 14th to the 17th.
-use Prim.Native.Nat.{ℕ, _+_, _/_, _≤_}
+use Prim.Native.Nat.{ℕ, _+_, _≤_}
 use native.Mathlib.Omega.{arith}
 use Rattle.senmyo.specs.Phases as senmyo-phases
 use Rattle.senmyo.proofs.PhaseLaws.{advance-is-floor}
@@ -7,18 +7,13 @@ use Rattle.senmyo.proofs.Lengths as senmyo-lengths
 use Rattle.genka.proofs.GenkaLaws as genka-laws
 use Rattle.months.specs.declared.Calendar.{Calendar}
 use Rattle.months.specs.declared.Calendar.the-variants.{Senmyo, Genka}
-use Rattle.months.specs.declared.Moment.{Moment}
-use Rattle.months.specs.Rules.{Rules, rulesOf}
-
--- the whole days of a moment
-abbrev pub dayOf : Moment → ℕ
-dayOf m = m .units / m .«of_day»
+use Rattle.months.specs.Rules.{Rules, daysAt, rulesOf}
 
 pub record MoonDays (r : Rules) (k : ℕ) : Type 0 where
-  pub new-from : r .start k ≤ dayOf (r .newMoon k) + 1
-  pub new-to : dayOf (r .newMoon k) ≤ r .start k
-  pub full-from : r .start k + 13 ≤ dayOf (r .fullMoon k)
-  pub full-to : dayOf (r .fullMoon k) ≤ r .start k + 16
+  pub new-from : r .start k ≤ daysAt (r .newMoon k) + 1
+  pub new-to : daysAt (r .newMoon k) ≤ r .start k
+  pub full-from : r .start k + 13 ≤ daysAt (r .fullMoon k)
+  pub full-to : daysAt (r .fullMoon k) ≤ r .start k + 16
 
 pub moon-days : (c : Calendar) (k : ℕ) → MoonDays (rulesOf c) k
 unfolding rulesOf

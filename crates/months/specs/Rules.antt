@@ -1,6 +1,6 @@
 -- The two calendars as one thing: what "Months and leap" and "Instants for the chart" of 01 ask of a calendar, and what each of them gives. Days are whole days
 -- from the calendar's own origin.
-use Prim.Native.Nat.{ℕ, _-_, _*_}
+use Prim.Native.Nat.{ℕ, _-_, _/_}
 use Rattle.units.specs.Units.{dayFen}
 use Rattle.senmyo.specs.Means as senmyo-means
 use Rattle.senmyo.specs.Phases as senmyo-phases
@@ -31,6 +31,10 @@ pub record Rules : Type 0 where
 abbrev pub moment : ℕ → ℕ → Moment
 moment units ofDay = record { units = units; «of_day» = ofDay }
 
+-- its whole days
+abbrev pub daysAt : Moment → ℕ
+daysAt t = t .units / t .«of_day»
+
 -- mid-term 0 is a solstice, of month 11; moments are told in fen
 abbrev pub senmyo : Rules
 senmyo =
@@ -57,8 +61,8 @@ genka =
       zerothNumber = 1;
       rainWater = λ y. genka-means.rainWater y;
       dayZero = genka-means.dayZero;
-      newMoon = λ k. moment (2 * genka-means.newMoon k .0) (2 * genka-means.dayParts);
-      fullMoon = λ k. moment (genka-means.fullMoon k .0) (2 * genka-means.dayParts);
+      newMoon = λ k. moment (genka-means.partToHalfParts (genka-means.newMoon k) .0) genka-means.dayHalfParts;
+      fullMoon = λ k. moment (genka-means.fullMoon k .0) genka-means.dayHalfParts;
     }
 
 -- the day number of a day

@@ -211,7 +211,7 @@ pub fn new_moon(calendar: Calendar, month: u32) -> Moment
             of_day: FEN_OF_DAY as u32,
         },
         Calendar::Genka => Moment {
-            units: 2 * genka::new_moon(month).0,
+            units: genka::part_to_half_parts(genka::new_moon(month)).0,
             of_day: HALF_PARTS_OF_DAY as u32,
         },
     }

@@ -20,12 +20,17 @@ use Rattle.moons.specs.Instants.{instantIn, newMoonOf, fullMoonOf}
 
 -- ---- eclipses
 
--- 1522 month 2: full moon 6215 fen, node distance 2241, yin, 14 parts, remainder 412, strong
+-- 1522 month 2: full moon 6215 fen, node distance 2241, yin ..
+moon-1522 : fullMoonAt 87454579 ≡ record { day = 2277039; fen = fen 6215; side = Yin; distance = fen 2241 }
+unfolding fullMoonAt sunAt moonAt corrections fullMoon nodePlaceAt nodePlace modulo nodeOf distanceOf
+moon-1522 = refl
+
+-- .. 14 parts, remainder 412, strong
 eclipse-1522 : eclipseOf 1 1522 2 false ≡
     given
     (record { day = 2277039; fen = fen 6215; side = Yin; distance = fen 2241 }, record { kind = partial; parts = 14; remainder = 412; strong = true })
-unfolding eclipseOf rulesOf fullMoonAt dayAt sunAt moonAt corrections fullMoon nodePlaceAt nodePlace modulo nodeOf distanceOf gradeOf
-eclipse-1522 = rw (month-with senmyo senmyo-steady 87454579 (senmyo .rainWater 1522 + 1) tt)
+unfolding eclipseOf rulesOf dayAt gradeOf
+eclipse-1522 = rw (month-with senmyo senmyo-steady 87454579 (senmyo .rainWater 1522 + 1) tt, moon-1522)
 
 -- Genka gives 13 whatever the year and the month, and no other calendar does
 genka-643 : eclipseOf 2 643 5 false ≡ refused 13

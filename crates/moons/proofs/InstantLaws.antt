@@ -51,15 +51,15 @@ module _ (c y m : ℕ) (leap : Bool) where
   month = monthNamed (rulesFor c) y m leap
 
   -- a month of which an answer is given is covered
-  given-covering : {A : Type 0} (of : Rules → ℕ → A) (a : A) → ofMonth of c y m leap ≡ given a → Covering (rulesFor c) month
-  given-covering of a e =
-      let g = of-given c y m leap of a .only-if e in
+  given-covering : {A : Type 0} (what : Rules → ℕ → A) (a : A) → ofMonth what c y m leap ≡ given a → Covering (rulesFor c) month
+  given-covering what a e =
+      let g = of-given c y m leap what a .only-if e in
       let covered = covered-year-told (rulesFor c) y (g .1 .0) in
       month-covering (numbered c) y covered month (name-found (numbered c) y covered m leap (g .1 .1 .0) .of-year)
 
   -- .. and the answer is that of the month
-  given-is : {A : Type 0} (of : Rules → ℕ → A) (a : A) → ofMonth of c y m leap ≡ given a → of (rulesFor c) month ≡ a
-  given-is of a e = one-given (of (rulesFor c) month) a (of-given c y m leap of a .only-if e .1 .1 .1)
+  given-is : {A : Type 0} (what : Rules → ℕ → A) (a : A) → ofMonth what c y m leap ≡ given a → what (rulesFor c) month ≡ a
+  given-is what a e = one-given (what (rulesFor c) month) a (of-given c y m leap what a .only-if e .1 .1 .1)
 
   pub new-near : (x : Float) → newMoonOf c y m leap ≡ given x → NearMoment (rulesFor c) (rulesFor c .newMoon month) x
   unfolding newMoonOf

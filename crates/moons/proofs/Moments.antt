@@ -1,42 +1,45 @@
 -- The moons of a covered month have Julian dates: they stand near its first day.
-use mathlib.Core.Path.{_≡_}
-use Prim.Native.Nat.{ℕ, _+_, _*_, _<_, _≤_, _^_}
+use mathlib.Core.Path.{_≡_, refl}
+use Prim.Native.Nat.{ℕ, _+_, _*_, _%_, _<_, _≤_, _^_}
 use native.Mathlib.Nat.{mod-lt}
 use native.Mathlib.Omega.{arith}
+use Rattle.units.specs.Units.{wholeDays}
 use Rattle.julian.specs.Julian.{numerator}
+use Rattle.senmyo.specs.Phases.{fullMoonFen}
 use Rattle.months.specs.declared.Calendar.{Calendar}
 use Rattle.months.specs.declared.Calendar.the-variants.{Senmyo, Genka}
 use Rattle.months.specs.declared.Moment.{Moment}
-use Rattle.months.specs.Rules.{Rules, rulesOf}
+use Rattle.months.specs.Rules.{Rules, senmyo, daysAt, rulesOf}
 use Rattle.months.specs.Room.{Covering}
-use Rattle.months.proofs.Moments.{dayOf, moon-days}
+use Rattle.months.proofs.Moments.{moon-days}
 use Rattle.months.proofs.CoveredYears.{edges, its-days, starts-covered, ends-covered}
 use Rattle.moons.specs.declared.Phase.{Phase}
 use Rattle.moons.specs.declared.Phase.the-variants.{New, Full}
-use Rattle.moons.specs.Instants.{dayIn, partIn}
+use Rattle.moons.specs.Instants.{dayNumberAt, partAt}
 use Rattle.moons.specs.Room.{momentIn, Dated}
 
--- units of a day: some, and few
+-- units of a day: some, few, and an even number
 record Units (t : Moment) : Type 0 where
   some : 0 < t .«of_day»
   few : t .«of_day» ≤ 2 ^ 20
+  even : t .«of_day» % 2 ≡ 0
 
 new-units : (c : Calendar) (k : ℕ) → Units (rulesOf c .newMoon k)
 unfolding rulesOf
-new-units Senmyo k = record { some = omega arith; few = omega arith }
-new-units Genka k = record { some = omega arith; few = omega arith }
+new-units Senmyo k = record { some = omega arith; few = omega arith; even = refl }
+new-units Genka k = record { some = omega arith; few = omega arith; even = refl }
 
 full-units : (c : Calendar) (k : ℕ) → Units (rulesOf c .fullMoon k)
 unfolding rulesOf
-full-units Senmyo k = record { some = omega arith; few = omega arith }
-full-units Genka k = record { some = omega arith; few = omega arith }
+full-units Senmyo k = record { some = omega arith; few = omega arith; even = refl }
+full-units Genka k = record { some = omega arith; few = omega arith; even = refl }
 
 -- a moment of a day that has a day number
-dated : (r : Rules) (t : Moment) → Units t → r .dayZero + 2 ≤ dayOf t → dayOf t < r .dayZero + 2 ^ 22 → Dated r t
+dated : (r : Rules) (t : Moment) → Units t → r .dayZero + 2 ≤ daysAt t → daysAt t < r .dayZero + 2 ^ 22 → Dated r t
 dated r t u from to =
     record {
       after-zero = omega (arith, from);
-      datable = record { from = omega (arith, from); to = omega (arith, from, to); in-day = mod-lt _ (u .some); few-parts = u .few };
+      datable = record { from = omega (arith, from); to = omega (arith, from, to); in-day = mod-lt _ (u .some); few-parts = u .few; even = u .even };
     }
 
 module _ (c : Calendar) (k : ℕ) (h : Covering (rulesOf c) k) where
@@ -61,11 +64,22 @@ module _ (c : Calendar) (k : ℕ) (h : Covering (rulesOf c) k) where
   moon-dated New = new-dated
   moon-dated Full = full-dated
 
+-- the day of Senmyo's full moon has a day number
+pub record Numbered (d : ℕ) : Type 0 where
+  pub from : senmyo .dayZero ≤ d
+  pub to : d < senmyo .dayZero + 2 ^ 22
+
+pub full-numbered : (k : ℕ) → Covering senmyo k → Numbered (wholeDays (fullMoonFen k))
+unfolding rulesOf
+full-numbered k h =
+    let t = full-dated Senmyo k h in
+    record { from = t .after-zero; to = omega (arith, t .after-zero, t .datable .to) }
+
 -- ---- the numerator of an instant, over whole numbers
 
 -- it is the moment less the days up to day number 0 and half a day: nothing is cut off on the way
 pub record Exact (r : Rules) (t : Moment) : Type 0 where
-  pub doubled : 2 * numerator (dayIn r t) (partIn t) (t .«of_day») + (2 * r .dayZero + 1) * t .«of_day» ≡ 2 * t .units
+  pub doubled : 2 * numerator (dayNumberAt r t) (partAt t) (t .«of_day») + (2 * r .dayZero + 1) * t .«of_day» ≡ 2 * t .units
 
 pub new-exact : (c : Calendar) (k : ℕ) → Covering (rulesOf c) k → Exact (rulesOf c) (rulesOf c .newMoon k)
 unfolding rulesOf

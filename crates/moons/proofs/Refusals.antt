@@ -21,20 +21,20 @@ module _ (c y m : ℕ) (leap : Bool) where
 
   -- ---- instants, and whatever else is asked of a month of either calendar
 
-  module _ {A : Type 0} (of : Rules → ℕ → A) where
+  module _ {A : Type 0} (what : Rules → ℕ → A) where
     abbrev answer : A
-    answer = of (rulesFor c) (monthNamed (rulesFor c) y m leap)
+    answer = what (rulesFor c) (monthNamed (rulesFor c) y m leap)
 
-    pub of-given : (a : A) → Exactly (ofMonth of c y m leap ≡ given a) ((isCalendar c ≡ true) × ((covered ≡ true) × ((has ≡ true) × (given answer ≡ given a))))
+    pub of-given : (a : A) → Exactly (ofMonth what c y m leap ≡ given a) ((isCalendar c ≡ true) × ((covered ≡ true) × ((has ≡ true) × (given answer ≡ given a))))
     of-given a = after (gives 1 _ _ a) (after (gives 2 _ _ a) (gives 3 _ _ a))
 
-    pub of-refused-1 : Exactly (ofMonth of c y m leap ≡ refused 1) (isCalendar c ≡ false)
+    pub of-refused-1 : Exactly (ofMonth what c y m leap ≡ refused 1) (isCalendar c ≡ false)
     of-refused-1 = refuses 1 _ _ (never 2 _ covered 1 (λ e. omega (arith, e)) (never 3 _ has 1 (λ e. omega (arith, e)) (not-refused 1 answer)))
 
-    pub of-refused-2 : Exactly (ofMonth of c y m leap ≡ refused 2) ((isCalendar c ≡ true) × (covered ≡ false))
+    pub of-refused-2 : Exactly (ofMonth what c y m leap ≡ refused 2) ((isCalendar c ≡ true) × (covered ≡ false))
     of-refused-2 = after (passes 1 _ _ 2 (λ e. omega (arith, e))) (refuses 2 _ _ (never 3 _ has 2 (λ e. omega (arith, e)) (not-refused 2 answer)))
 
-    pub of-refused-3 : Exactly (ofMonth of c y m leap ≡ refused 3) ((isCalendar c ≡ true) × ((covered ≡ true) × (has ≡ false)))
+    pub of-refused-3 : Exactly (ofMonth what c y m leap ≡ refused 3) ((isCalendar c ≡ true) × ((covered ≡ true) × (has ≡ false)))
     of-refused-3 = after (passes 1 _ _ 3 (λ e. omega (arith, e))) (after (passes 2 _ _ 3 (λ e. omega (arith, e))) (refuses 3 _ _ (not-refused 3 answer)))
 
   -- ---- eclipses

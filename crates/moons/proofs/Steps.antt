@@ -14,7 +14,7 @@ use Rattle.months.specs.Rules.{Rules, senmyo, rulesOf}
 use Rattle.months.specs.Months.{spanned}
 use Rattle.months.specs.Room.{Covering}
 use Rattle.asked.specs.Asked.{isCalendar, numbered, rulesFor, isCovered, monthNamed, hasMonth, monthAsked}
-use Rattle.asked.proofs.Refusals.{month-given}
+use Rattle.asked.proofs.Given.{month-given}
 use Rattle.asked.proofs.Covered.{asked-span}
 use Rattle.moons.specs.declared.FullMoon.{FullMoon}
 use Rattle.moons.specs.Eclipses.{eclipseIn, eclipseOf}
@@ -22,11 +22,11 @@ use Rattle.moons.specs.Instants.{ofMonth}
 
 -- ---- what is asked of a month
 
-module _ {A : Type 0} (of : Rules → ℕ → A) (c y m : ℕ) (leap : Bool) where
+module _ {A : Type 0} (what : Rules → ℕ → A) (c y m : ℕ) (leap : Bool) where
   abbrev told : Calendar × Span → Answer A
-  told a = given (of (rulesOf (a .0)) (a .1 .month))
+  told a = given (what (rulesOf (a .0)) (a .1 .month))
 
-  pub of-asked : ofMonth of c y m leap ≡ then (monthAsked c y m leap) told
+  pub of-asked : ofMonth what c y m leap ≡ then (monthAsked c y m leap) told
   unfolding monthAsked
   of-asked =
       let r : Rules = rulesFor c in
@@ -35,10 +35,10 @@ module _ {A : Type 0} (of : Rules → ℕ → A) (c y m : ℕ) (leap : Bool) whe
       (then-need (isCalendar c) 1 (need (isCovered r y) 2 (need (hasMonth r y m leap) 3 a)) told
       ∙ ap (need (isCalendar c) 1) (then-need (isCovered r y) 2 (need (hasMonth r y m leap) 3 a) told ∙ ap (need (isCovered r y) 2) (then-need (hasMonth r y m leap) 3 a told)))
 
-  pub of-refused : (n : ℕ) → monthAsked c y m leap ≡ refused n → ofMonth of c y m leap ≡ refused n
+  pub of-refused : (n : ℕ) → monthAsked c y m leap ≡ refused n → ofMonth what c y m leap ≡ refused n
   of-refused n e = of-asked ∙ ap (λ a. then a told) e
 
-  pub of-found : (k : Calendar) (s : Span) → monthAsked c y m leap ≡ given (k, s) → ofMonth of c y m leap ≡ given (of (rulesOf k) (s .month))
+  pub of-found : (k : Calendar) (s : Span) → monthAsked c y m leap ≡ given (k, s) → ofMonth what c y m leap ≡ given (what (rulesOf k) (s .month))
   of-found k s e = of-asked ∙ ap (λ a. then a told) e
 
 -- ---- the eclipse: what is asked of a month of Senmyo

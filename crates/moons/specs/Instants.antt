@@ -1,34 +1,34 @@
 -- Both moons of a month as Julian dates (01, "Instants for the chart" and "Refusal numbers").
 use mathlib.Core.Bool.{Bool}
-use Prim.Native.Nat.{ℕ, _/_, _%_}
+use Prim.Native.Nat.{ℕ, _%_}
 use lib.Ieee.{Float}
 use Rattle.numbers.specs.Answer.{Answer, given, need}
 use Rattle.julian.specs.Julian.{numerator, instant, Near}
 use Rattle.months.specs.declared.Moment.{Moment}
-use Rattle.months.specs.Rules.{Rules, dayNumber}
+use Rattle.months.specs.Rules.{Rules, daysAt, dayNumber}
 use Rattle.asked.specs.Asked.{isCalendar, rulesFor, isCovered, monthNamed, hasMonth}
 use Rattle.moons.specs.declared.Moons.{Moons}
 
 -- the day number of a moment, and the units of the day gone
-abbrev pub dayIn : Rules → Moment → ℕ
-dayIn r t = dayNumber r (t .units / t .«of_day»)
+abbrev pub dayNumberAt : Rules → Moment → ℕ
+dayNumberAt r t = dayNumber r (daysAt t)
 
-abbrev pub partIn : Moment → ℕ
-partIn t = t .units % t .«of_day»
+abbrev pub partAt : Moment → ℕ
+partAt t = t .units % t .«of_day»
 
 -- its instant: day − 1/2 + part of the day
 unfoldable pub instantIn : Rules → Moment → Float
-instantIn r t = instant (dayIn r t) (partIn t) (t .«of_day»)
+instantIn r t = instant (dayNumberAt r t) (partAt t) (t .«of_day»)
 
 -- x lies within 1/2^32 day of the exact fraction
 abbrev pub NearMoment : Rules → Moment → Float → Type 0
-NearMoment r t x = Near (numerator (dayIn r t) (partIn t) (t .«of_day»)) (t .«of_day») x
+NearMoment r t x = Near (numerator (dayNumberAt r t) (partAt t) (t .«of_day»)) (t .«of_day») x
 
 -- what is asked of a month that is named
 abbrev pub ofMonth : {A : Type 0} → (Rules → ℕ → A) → ℕ → ℕ → ℕ → Bool → Answer A
-ofMonth of c y m leap =
+ofMonth what c y m leap =
     let r : Rules = rulesFor c in
-    need (isCalendar c) 1 (need (isCovered r y) 2 (need (hasMonth r y m leap) 3 (given (of r (monthNamed r y m leap)))))
+    need (isCalendar c) 1 (need (isCovered r y) 2 (need (hasMonth r y m leap) 3 (given (what r (monthNamed r y m leap)))))
 
 -- its new moon, before any advance
 abbrev pub newMoonIn : Rules → ℕ → Float

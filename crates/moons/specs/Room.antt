@@ -1,18 +1,14 @@
 -- What inner functions find, and what they ask of their callers, which have made sure of it. No rule of the calendar.
 use mathlib.Core.Bool.{Bool}
-use Prim.Native.Nat.{ℕ, _/_, _≤_}
+use Prim.Native.Nat.{ℕ, _≤_}
 use lib.Ieee.{Float}
 use Rattle.numbers.specs.Answer.{Answer}
 use Rattle.julian.specs.Room.{Datable}
 use Rattle.months.specs.declared.Moment.{Moment}
-use Rattle.months.specs.Rules.{Rules}
-use Rattle.moons.specs.declared.DayPart.{DayPart}
+use Rattle.months.specs.Rules.{Rules, daysAt}
 use Rattle.moons.specs.declared.Phase.{Phase}
 use Rattle.moons.specs.declared.Phase.the-variants.{New, Full}
-use Rattle.moons.specs.Instants.{dayIn, partIn, instantIn, ofMonth}
-
-abbrev pub dayPart : Rules → Moment → DayPart
-dayPart r t = record { day = dayIn r t; part = partIn t }
+use Rattle.moons.specs.Instants.{dayNumberAt, partAt, instantIn, ofMonth}
 
 -- either moon of a month, and what a call answers for it
 abbrev pub momentIn : Phase → Rules → ℕ → Moment
@@ -24,5 +20,5 @@ phaseOf phase c y m leap = ofMonth (λ r k. instantIn r (momentIn phase r k)) c 
 
 -- a moment after day number 0 that has a Julian date
 pub record Dated (r : Rules) (t : Moment) : Type 0 where
-  pub after-zero : r .dayZero ≤ t .units / t .«of_day»
-  pub datable : Datable (dayIn r t) (partIn t) (t .«of_day»)
+  pub after-zero : r .dayZero ≤ daysAt t
+  pub datable : Datable (dayNumberAt r t) (partAt t) (t .«of_day»)

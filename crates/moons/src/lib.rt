@@ -4,7 +4,7 @@ ghost use Rattle.months.specs.Room.{Covering};
 ghost use Rattle.moons.specs.Eclipses.{fullMoonAt, eclipseOf};
 ghost use Rattle.moons.specs.Instants.{instantIn, newMoonOf, fullMoonOf, moonsOf};
 ghost use Rattle.moons.specs.Answers.{eclipseMeans, instantMeans, moonsMeans};
-ghost use Rattle.moons.specs.Room.{dayPart, momentIn, phaseOf, Dated};
+ghost use Rattle.moons.specs.Room.{momentIn, phaseOf, Dated};
 use asked::MonthAsked;
 use eclipse::Grade;
 use eclipse::Side;
@@ -49,33 +49,17 @@ enum Phase {
     Full,
 }
 
-// A moment's day number, and the units of that day gone.
-struct DayPart {
-    day: u32,
-    part: u32,
-}
-
-fn day_part(calendar: Calendar, moment: Moment) -> DayPart
-    requires { ⌜ Dated (rulesOf calendar) moment ⌝ }
-    ensures { λ r. ⌜ r ≡ dayPart (rulesOf calendar) moment ⌝ }
-{
-    DayPart {
-        day: (moment.units / (moment.of_day as u64) - months::day_zero(calendar)) as u32,
-        part: (moment.units % (moment.of_day as u64)) as u32,
-    }
-}
-
 fn full_moon_at(month: u32) -> FullMoon
     requires { ⌜ Covering senmyo month ⌝ }
     ensures { λ r. ⌜ r ≡ fullMoonAt month ⌝ }
 {
-    let at = day_part(Calendar::Senmyo, months::full_moon(Calendar::Senmyo, month));
+    let moon = senmyo::full_moon_fen(month);
     let node = senmyo::node(month);
     let side = node.side;
     let distance = node.distance;
     FullMoon {
-        day: at.day,
-        fen: Fen(at.part as u64),
+        day: (units::whole_days(moon) - months::day_zero(Calendar::Senmyo)) as u32,
+        fen: units::fen_of_day(moon),
         side,
         distance,
     }
@@ -101,8 +85,9 @@ fn instant_of(calendar: Calendar, moment: Moment) -> f64
     requires { ⌜ Dated (rulesOf calendar) moment ⌝ }
     ensures { λ r. ⌜ r ≡ instantIn (rulesOf calendar) moment ⌝ }
 {
-    let at = day_part(calendar, moment);
-    julian::julian_date(at.day, at.part, moment.of_day)
+    let day = moment.units / (moment.of_day as u64) - months::day_zero(calendar);
+    let part = moment.units % (moment.of_day as u64);
+    julian::julian_date(day as u32, part as u32, moment.of_day)
 }
 
 fn moment_of(calendar: Calendar, month: u32, phase: Phase) -> Moment

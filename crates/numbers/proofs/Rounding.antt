@@ -106,11 +106,8 @@ floor-and-modulo (negsuc n) d p =
     is-same (is-add (is-pos (d - 1 - n % d)) (is-neg (is-pos (suc (n / d) * d)))) (is-neg (is-pos (suc n)))
     (omega (arith, suc-mul (n / d) d, div-add-mod' n d, mod-lt n p))
 
-modulo-under : (z : ℤ) (d : ℕ) → 0 < d → modulo z d < d
+-- .. modulo being less than d
+pub modulo-below : (z : ℤ) (d : ℕ) → 0 < d → modulo z d < d
 unfolding modulo
-modulo-under (pos n) d p = mod-lt n p
-modulo-under (negsuc n) d p = omega (arith, p)
-
--- .. and less than d
-pub modulo-below : (z : ℤ) {d : ℕ} → 0 < d → modulo z d < d
-modulo-below z {d} p = modulo-under z d p
+modulo-below (pos n) d p = mod-lt n p
+modulo-below (negsuc n) d p = omega (arith, p)

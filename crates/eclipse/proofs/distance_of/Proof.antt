@@ -14,7 +14,7 @@ add-t9 : tie.Need-add-t9
 add-t9 c = search needs
 
 returns : tie.Need-returns
-returns c = distance-near _ (c .if1 .taken)
+returns c = distance-near _ (c .before .if1 .taken)
 
 returns-2 : tie.Need-returns-2
 returns-2 c = distance-far _ (c .if1 .left)

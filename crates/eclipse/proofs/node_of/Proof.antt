@@ -5,8 +5,8 @@ use Rattle.eclipse.proofs.NodeLaws.{node-yin, node-yang}
 use Rattle.eclipse.proofs.node_of.Statement.{statement}
 use Rattle.eclipse.proofs.node_of.Tie as tie
 
-sub-distance-of : tie.Need-sub-distance-of
-sub-distance-of c = search needs
+sub-t6 : tie.Need-sub-t6
+sub-t6 c = search needs
 
 distance-of-requires : tie.Need-distance-of-requires
 distance-of-requires c κs = search needs
@@ -21,4 +21,5 @@ returns-2 : tie.Need-returns-2
 returns-2 c = rw (c .distance-of2 .ensures) (sym (node-yang _ (c .before .if1 .left)))
 
 pub node-of-spec : {M : Type 1} → statement M
-node-of-spec = tie.close (tie.spec sub-distance-of distance-of-requires distance-of-requires-2 returns returns-2)
+node-of-spec =
+    tie.close (tie.spec sub-t6 distance-of-requires distance-of-requires-2 returns returns-2)

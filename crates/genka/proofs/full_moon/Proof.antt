@@ -7,14 +7,14 @@ use Rattle.genka.proofs.full_moon.Tie as tie
 new-moon-requires : tie.Need-new-moon-requires
 new-moon-requires c κs = search needs
 
-mul-t3 : tie.Need-mul-t3
-mul-t3 c = rw (c .before .new-moon .ensures) (omega arith)
+part-to-half-parts-requires : tie.Need-part-to-half-parts-requires
+part-to-half-parts-requires c κs = rw (c .new-moon .ensures) (omega arith)
 
 add-t4 : tie.Need-add-t4
-add-t4 c = rw (c .before .new-moon .ensures) (omega arith)
+add-t4 c = rw (c .before .part-to-half-parts .ensures, c .before .before .new-moon .ensures) (omega arith)
 
 returns : tie.Need-returns
-returns c = rw (c .before .new-moon .ensures)
+returns c = rw (c .before .part-to-half-parts .ensures, c .before .before .new-moon .ensures)
 
 pub full-moon-spec : {M : Type 1} → statement M
-full-moon-spec = tie.close (tie.spec new-moon-requires mul-t3 add-t4 returns)
+full-moon-spec = tie.close (tie.spec new-moon-requires part-to-half-parts-requires add-t4 returns)

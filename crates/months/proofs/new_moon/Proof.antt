@@ -20,8 +20,8 @@ enum-told-2 c = search needs
 new-moon-requires-2 : tie.Need-new-moon-requires-2
 new-moon-requires-2 c κs = search needs
 
-mul-t7 : tie.Need-mul-t7
-mul-t7 c = rw (c .before .new-moon2 .ensures) (omega arith)
+part-to-half-parts-requires : tie.Need-part-to-half-parts-requires
+part-to-half-parts-requires c κs = rw (c .new-moon2 .ensures) (omega arith)
 
 cast-t8 : tie.Need-cast-t8
 cast-t8 c = search needs
@@ -32,7 +32,7 @@ returns c = rw (c .before .enum-told .given .1, c .new-moon .ensures)
 
 returns-2 : tie.Need-returns-2
 unfolding rulesOf
-returns-2 c = rw (c .before .before .enum-told2 .given .1, c .before .new-moon2 .ensures)
+returns-2 c = rw (c .before .before .enum-told2 .given .1, c .part-to-half-parts .ensures, c .before .new-moon2 .ensures)
 
 pub new-moon-spec : {M : Type 1} → statement M
 new-moon-spec =
@@ -43,7 +43,7 @@ new-moon-spec =
     cast-t5
     enum-told-2
     new-moon-requires-2
-    mul-t7
+    part-to-half-parts-requires
     cast-t8
     returns
     returns-2)

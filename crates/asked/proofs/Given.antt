@@ -1,9 +1,9 @@
--- When each call gives its answer and when it refuses, exactly (01, "Refusal numbers"): the first condition that fails names the refusal.
+-- When a year or a month that is asked for is given, exactly.
 use mathlib.Core.Path.{_≡_}
 use mathlib.Core.Bool.{Bool, true}
 use Prim.Native.Nat.{ℕ}
 use Rattle.numbers.specs.Answer.{given}
-use Rattle.numbers.proofs.Answers.{Exactly, after, gives, refuses}
+use Rattle.numbers.proofs.Answers.{Exactly, after, gives}
 use Rattle.months.specs.declared.Calendar.{Calendar}
 use Rattle.months.specs.declared.Span.{Span}
 use Rattle.months.specs.Months.{spanned}
