@@ -36,12 +36,15 @@ monthNamed r y m leap = elim leap [ true ↦ regularMonth r y m + 1 | false ↦ 
 abbrev pub hasMonth : Rules → ℕ → ℕ → Bool → Bool
 hasMonth r y m leap = (leb 1 m && leb m 12) && elim leap [ true ↦ isLeap r (regularMonth r y m + 1) | false ↦ true ]
 
+-- the calendar that is asked for, or the refusal
 abbrev pub calendarOf : ℕ → Answer Calendar
 calendarOf c = need (isCalendar c) 1 (given (numbered c))
 
+-- .. and the year
 unfoldable pub yearAsked : ℕ → ℕ → Answer (Calendar × ℕ)
 yearAsked c y = need (isCalendar c) 1 (need (isCovered (rulesFor c) y) 2 (given (numbered c, y)))
 
+-- .. and the month, with its days
 unfoldable pub monthAsked : ℕ → ℕ → ℕ → Bool → Answer (Calendar × Span)
 monthAsked c y m leap =
     let r : Rules = rulesFor c in
