@@ -1,11 +1,11 @@
 //! The figures worked in the rules, and some known besides, such as the number
 //! of eclipses, each beside what the peer makes of it.
 
-use crate::calendar::{cycle_number, Calendar};
+use crate::calendar::{self, cycle_number, Calendar};
 use crate::months::{self, Month, Year};
-use crate::refusal::Refusal;
 use crate::units::Fen;
-use crate::{eclipse, moon, senmyo, sun};
+use crate::{eclipse, moon, record, refusal, senmyo, sun};
+use std::collections::BTreeSet;
 
 const SUN_OF_1522: [i64; 12] = [
     1136, 1483, 1484, 1154, 549, -281, -974, -1406, -1522, -1295, -733, 139,
@@ -13,6 +13,12 @@ const SUN_OF_1522: [i64; 12] = [
 const MOON_OF_1522: [i64; 12] = [
     2835, 3206, 3013, 2278, 1018, -583, -1962, -2833, -3180, -2970, -2223, -973,
 ];
+const RECORD_OF_1522: [u8; 25] = *b"\
+    \x01\x00\x01\x01\
+    \x02\x00\x02\x05\xF2\
+    \x03\x00\x04\x00\x22\xBE\x84\
+    \x04\x00\x01\x00\
+    \x05\x00\x02\x0D\x4A";
 
 pub struct Figure {
     pub name: String,
@@ -44,6 +50,8 @@ pub fn all() -> Vec<Figure> {
     figures.extend(count_of_eclipses());
     figures.extend(year_643());
     figures.extend(edges_of_the_calendars());
+    figures.extend(record_of_1522());
+    figures.extend(count_of_records());
     figures
 }
 
@@ -153,8 +161,7 @@ fn year_643() -> Vec<Figure> {
 }
 
 fn edges_of_the_calendars() -> Vec<Figure> {
-    let refusal = |calendar, year| months::year(calendar, year).err();
-    let number = |calendar, year| refusal(calendar, year).map_or(0, Refusal::number);
+    let number = |calendar, year| refusal::number(months::year(calendar, year));
     let day_after = |year: Year| year.first_day() + year.days();
     vec![
         figure("821 refused", number(1, 821), 2),
@@ -166,6 +173,28 @@ fn edges_of_the_calendars() -> Vec<Figure> {
         figure("697 day after", day_after(covered(2, 697)), 1_976_049),
         figure("698 refused", number(2, 698), 2),
     ]
+}
+
+fn record_of_1522() -> Vec<Figure> {
+    let mut bytes = RECORD_OF_1522.map(|byte| !byte);
+    let writing = refusal::number(record::write(1, 1522, &mut bytes));
+    let reading = refusal::number(record::read(&RECORD_OF_1522));
+    let mut figures = vec![
+        figure("record, bytes", record::length() as i64, 25),
+        figure("1522 record, writing refused", writing, 0),
+        figure("1522 record, reading refused", reading, 0),
+    ];
+    for (place, expected) in RECORD_OF_1522.into_iter().enumerate() {
+        let name = format!("1522 record, byte {place}");
+        figures.push(figure(&name, bytes[place].into(), expected.into()));
+    }
+    figures
+}
+
+fn count_of_records() -> Vec<Figure> {
+    let years = calendar::ALL.into_iter().flat_map(months::covered_years);
+    let records: BTreeSet<Vec<u8>> = years.map(|year| record::of_year(&year)).collect();
+    vec![figure("records", records.len() as i64, 863 + 253)]
 }
 
 fn covered(calendar: i64, year: i64) -> Year {

@@ -99,7 +99,12 @@ pub fn figure_line(figure: &Figure) -> String {
     format!("{}: {}{}\n", figure.name, figure.worked, verdict)
 }
 
-fn line(numbers: &[i64]) -> String {
+pub fn line(numbers: &[i64]) -> String {
     let words: Vec<String> = numbers.iter().map(i64::to_string).collect();
     words.join(" ") + "\n"
+}
+
+pub fn hexadecimal(bytes: &[u8]) -> String {
+    let words: Vec<String> = bytes.iter().map(|byte| format!("{byte:02x}")).collect();
+    words.join(" ")
 }

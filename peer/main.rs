@@ -14,6 +14,8 @@ mod instants;
 mod lines;
 mod months;
 mod moon;
+mod record;
+mod records;
 mod refusal;
 mod rounding;
 mod senmyo;
@@ -36,6 +38,7 @@ fn main() -> ExitCode {
         ["answers"] => print_answers(),
         ["eclipses"] => print_eclipses(),
         ["instants"] => print_instants(),
+        ["records"] => print_records(),
         ["figures"] => print_figures(),
         _ => usage(),
     }
@@ -82,6 +85,11 @@ fn print_instants() -> ExitCode {
     ExitCode::SUCCESS
 }
 
+fn print_records() -> ExitCode {
+    print!("{}", records::all());
+    ExitCode::SUCCESS
+}
+
 fn print_figures() -> ExitCode {
     let figures = figures::all();
     for figure in &figures {
@@ -97,7 +105,7 @@ fn print_figures() -> ExitCode {
 fn usage() -> ExitCode {
     eprintln!(
         "usage: peer year CALENDAR YEAR | peer COMMAND\n\
-         COMMAND: years, answers, eclipses, instants or figures"
+         COMMAND: years, answers, eclipses, instants, records or figures"
     );
     ExitCode::from(2)
 }

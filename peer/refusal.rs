@@ -3,6 +3,9 @@
 pub enum Refusal {
     NoSuchCalendar = 1,
     YearNotCovered = 2,
+    WrongRecordSize = 6,
+    WrongTagOrLength = 7,
+    WrongField = 8,
     NotALine = 12,
 }
 
@@ -10,4 +13,9 @@ impl Refusal {
     pub fn number(self) -> i64 {
         self as i64
     }
+}
+
+/// The number of an answer's refusal, or 0 if it is none.
+pub fn number<T>(answer: Result<T, Refusal>) -> i64 {
+    answer.err().map_or(0, Refusal::number)
 }

@@ -3,3 +3,4 @@ pub mod Given
 pub mod Names
 pub mod Covered
 pub mod OneAnswer
+pub mod Numbers

@@ -4,7 +4,7 @@ use mathlib.Core.Bool.{Bool, true, false}
 use Prim.Native.Nat.{ℕ, _+_, _-_, _<_, _≤_}
 use borrow.Author.Tests.{ne-eqb, le-leb, lt-leb}
 use Rattle.numbers.specs.Answer.{Answer, given, refused, need, then}
-use Rattle.numbers.proofs.Answers.{fails, holds, then-need}
+use Rattle.numbers.proofs.Answers.{fails, holds, then-need, then-needs}
 use Rattle.months.specs.declared.Calendar.{Calendar}
 use Rattle.months.specs.declared.Calendar.the-variants.{Senmyo, Genka}
 use Rattle.months.specs.declared.Span.{Span}
@@ -56,10 +56,7 @@ module _ (c y m : ℕ) (leap : Bool) where
 
   pub month-asked : monthAsked c y m leap ≡ then (yearAsked c y) (λ a. found (a .0) (a .1))
   unfolding monthAsked yearAsked
-  month-asked =
-      sym
-      (then-need (isCalendar c) 1 (need (isCovered (rulesFor c) y) 2 (given (numbered c, y))) (λ a. found (a .0) (a .1))
-      ∙ ap (need (isCalendar c) 1) (then-need (isCovered (rulesFor c) y) 2 (given (numbered c, y)) (λ a. found (a .0) (a .1))))
+  month-asked = sym (then-needs (isCalendar c) (isCovered (rulesFor c) y) 1 2 (given (numbered c, y)) (λ a. found (a .0) (a .1)))
 
   pub month-refused : (n : ℕ) → yearAsked c y ≡ refused n → monthAsked c y m leap ≡ refused n
   month-refused n e = month-asked ∙ ap (λ a. then a (λ a. found (a .0) (a .1))) e

@@ -70,7 +70,7 @@ unfolding genkaTerm
 genka-term d = record { from = omega arith; to = omega arith }
 
 -- 1522, as the program prints it
-months-1522 : yearOf 1 1522 ≡
+pub months-1522 : yearOf 1 1522 ≡
     given
     (record {
       days = 354;
@@ -97,7 +97,7 @@ months-1522 =
     (first-1522, first-1523, places-worked senmyo senmyo-steady senmyoTerm senmyo-term 87454578 12 13, leap-worked senmyo senmyo-steady senmyoTerm senmyo-term 87454578 12)
 
 -- 643: 383 days, 13 months, leap 7
-months-643 : yearOf 2 643 ≡
+pub months-643 : yearOf 2 643 ≡
     given
     (record {
       days = 383;

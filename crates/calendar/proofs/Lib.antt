@@ -4,5 +4,6 @@ pub mod Covered
 pub mod OneDate
 pub mod Places
 pub mod YearLaws
+pub mod FirstDays
 pub mod OneAnswer
 pub mod Figures

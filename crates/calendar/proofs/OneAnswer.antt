@@ -1,10 +1,12 @@
 -- Two answers that mean the same are one, so that a contract that says what an answer means fixes it.
-use mathlib.Core.Path.{_≡_}
+use mathlib.Core.Path.{_≡_, refl}
+use Rattle.numbers.specs.Answer.{Answer, given, refused, refusalIn}
+use Rattle.calendar.specs.declared.Year.{Year}
 use Rattle.calendar.specs.declared.DayAnswer.{DayAnswer}
 use Rattle.calendar.specs.declared.DayAnswer.the-variants as day-answer
 use Rattle.calendar.specs.declared.DateAnswer.{DateAnswer}
 use Rattle.calendar.specs.declared.DateAnswer.the-variants as date-answer
-use Rattle.calendar.specs.Answers.{dayMeans, dateMeans}
+use Rattle.calendar.specs.Answers.{dayMeans, dateMeans, yearAnswer}
 
 pub one-day : (x y : DayAnswer) → dayMeans x ≡ dayMeans y → x ≡ y
 one-day (day-answer.Day a) (day-answer.Day b) h = cc
@@ -17,3 +19,8 @@ one-date (date-answer.Date a) (date-answer.Date b) h = cc
 one-date (date-answer.Date a) (date-answer.Refused n) h = cc
 one-date (date-answer.Refused n) (date-answer.Date b) h = cc
 one-date (date-answer.Refused n) (date-answer.Refused m) h = cc
+
+-- a year's answer holds its refusal's number, or 0
+pub year-number : (a : Answer Year) → yearAnswer a .refusal ≡ refusalIn a
+year-number (given y) = refl
+year-number (refused n) = refl

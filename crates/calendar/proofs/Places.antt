@@ -2,10 +2,10 @@
 use mathlib.Core.Path.{_≡_, refl, sym, ap, _∙_}
 use mathlib.Core.Bool.{true, false}
 use mathlib.Core.List.{_∷_}
-use Prim.Native.Nat.{ℕ, zero, suc, _+_, _<_}
+use Prim.Native.Nat.{ℕ, zero, suc, _+_, _<_, _≤_}
 use native.Mathlib.Numerals.{add-one}
 use native.Mathlib.Omega.{arith}
-use lib.ListN.{set, replicate}
+use lib.ListN.{getD, set, replicate}
 use Rattle.months.specs.Rules.{Rules}
 use Rattle.months.specs.Months.{isLeap, numberOf}
 use Rattle.calendar.specs.declared.Month.{Month}
@@ -40,3 +40,9 @@ placed f k (suc i) (suc n) h =
 pub next-listed : (r : Rules) (k i : ℕ) → i < 13 → listedAt r (k + i) i (listing r k i) ≡ listing r k (i + 1)
 unfolding listedAt leapNumber
 next-listed r k i h = rw (placed (listed r) k i 13 h, add-one)
+
+-- the first place is the first month's
+pub first-place : (month : ℕ → Month) (k count n : ℕ) → 1 ≤ count → getD (places month k count (suc n)) 0 noMonth ≡ month k
+unfolding places
+first-place month k zero n h = absurd (omega (arith, h))
+first-place month k (suc count) n h = refl

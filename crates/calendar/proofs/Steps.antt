@@ -5,7 +5,7 @@ use Prim.Native.Nat.{ℕ, _+_, _-_, _<_, _≤_}
 use lib.Dec.{leb}
 use borrow.Author.Tests.{le-leb, lt-leb, lt-ltb, le-ltb}
 use Rattle.numbers.specs.Answer.{Answer, given, refused, need, then}
-use Rattle.numbers.proofs.Answers.{fails, holds, then-need}
+use Rattle.numbers.proofs.Answers.{fails, holds, then-need, then-needs}
 use Rattle.months.specs.declared.Calendar.{Calendar}
 use Rattle.months.specs.declared.Span.{Span}
 use Rattle.months.specs.Rules.{Rules, rulesOf, dayNumber}
@@ -90,7 +90,7 @@ module _ (c y : ℕ) where
   unfolding yearOf yearAsked
   months-asked =
       let covered : Bool = isCovered (rulesFor c) y in
-      sym (then-need (isCalendar c) 1 (need covered 2 (given (numbered c, y))) in-order ∙ ap (need (isCalendar c) 1) (then-need covered 2 (given (numbered c, y)) in-order))
+      sym (then-needs (isCalendar c) covered 1 2 (given (numbered c, y)) in-order)
 
   pub months-refused : (n : ℕ) → yearAsked c y ≡ refused n → yearOf c y ≡ refused n
   months-refused n e = months-asked ∙ ap (λ a. then a in-order) e

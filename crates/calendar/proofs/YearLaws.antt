@@ -10,10 +10,11 @@ use lib.Dec.{ltb}
 use Rattle.months.specs.declared.Calendar.{Calendar}
 use Rattle.months.specs.Rules.{Rules, rulesOf}
 use Rattle.months.specs.Months.{firstMonth, monthCount, isLeap, numberOf}
-use Rattle.months.specs.Year.{Twelve, Thirteen}
+use Rattle.months.specs.Year.{Twelve, Thirteen, TwelveOrThirteen, twelve, thirteen}
 use Rattle.months.proofs.Steady.{Steady}
 use Rattle.months.proofs.Terms.{number-of-last}
 use Rattle.months.proofs.Calendars.{steady}
+use Rattle.months.proofs.CoveredYears.{covered-year}
 use Rattle.asked.specs.Room.{CoveredYear}
 use Rattle.calendar.specs.declared.Month.{Month}
 use Rattle.calendar.specs.Years.{listed, places, leapNumber, yearIn}
@@ -99,3 +100,11 @@ leap-is r y t =
     behind t i low high =
         let on : firstMonth r y + (i - 1) + 1 ≡ firstMonth r y + i = omega (arith, low) in
         rw on at (t .behind (i - 1) (omega (arith, low)) (omega (arith, low, high)) .not-leap)
+
+-- so that it is at most 12
+pub leap-small : (c : Calendar) (y : ℕ) → CoveredYear (rulesOf c) y → yearIn (rulesOf c) y .leap ≤ 12
+leap-small c y covered = by-count (covered-year c y (covered .from) (covered .to) .months)
+  where
+    by-count : TwelveOrThirteen (rulesOf c) y → yearIn (rulesOf c) y .leap ≤ 12
+    by-count (twelve t) = omega (arith, leap-0 (rulesOf c) y t)
+    by-count (thirteen t) = omega (arith, leap-is (rulesOf c) y t, t .to-12)

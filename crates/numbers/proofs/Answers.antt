@@ -1,8 +1,8 @@
 -- Of several conditions the first that fails names the refusal, and an answer is given exactly if all hold.
-use mathlib.Core.Path.{_≡_, refl, sym}
+use mathlib.Core.Path.{_≡_, refl, sym, ap, _∙_}
 use mathlib.Core.Bool.{Bool, true, false, false≢true}
 use Prim.Native.Nat.{ℕ}
-use Rattle.numbers.specs.Answer.{Answer, given, refused, need, then}
+use Rattle.numbers.specs.Answer.{Answer, given, refused, need, then, refusalIn}
 
 -- one thing holds exactly if another does
 pub record Exactly (A B : Type 0) : Type 0 where
@@ -60,3 +60,19 @@ module _ {A : Type 0} (n : ℕ) (answer : Answer A) where
 pub then-need : {A B : Type 0} (b : Bool) (n : ℕ) (answer : Answer A) (step : A → Answer B) → then (need b n answer) step ≡ need b n (then answer step)
 then-need true n answer step = refl
 then-need false n answer step = refl
+
+pub then-needs : {A B : Type 0} (a b : Bool) (m n : ℕ) (answer : Answer A) (step : A → Answer B) → then (need a m (need b n answer)) step ≡ need a m (need b n (then answer step))
+then-needs a b m n answer step = then-need a m (need b n answer) step ∙ ap (need a m) (then-need b n answer step)
+
+-- ---- an answer as a struct: the refusal's number, or 0 and a value
+
+module _ {S A : Type 0} (struct : Answer A → S) (number : S → ℕ) (value : S → A) (number-told : (a : Answer A) → number (struct a) ≡ refusalIn a) (value-told : (v : A) → value (struct (given v)) ≡ v) (x : S) where
+  -- its number, where it is not 0, is a refusal's ..
+  pub struct-refused : (a : Answer A) → x ≡ struct a → (number x ≡ 0 → ⊥) → a ≡ refused (number x)
+  struct-refused (given v) e h = absurd (h (ap number e ∙ number-told (given v)))
+  struct-refused (refused n) e h = ap refused (sym (ap number e ∙ number-told (refused n)))
+
+  -- .. and where it is 0, which no refusal has, the value is given
+  pub struct-given : (a : Answer A) → x ≡ struct a → (a ≡ refused 0 → ⊥) → number x ≡ 0 → a ≡ given (value x)
+  struct-given (given v) e none h = ap given (sym (ap value e ∙ value-told v))
+  struct-given (refused n) e none h = absurd (none (ap refused (sym (ap number e ∙ number-told (refused n)) ∙ h)))

@@ -1,24 +1,20 @@
 -- The refusal that is printed is that of the line, or else that of the year.
-use mathlib.Core.Path.{_≡_, sym, ap}
+use mathlib.Core.Path.{_≡_, sym, ap, _∙_}
 use mathlib.Core.List.{List}
 use Prim.Native.Nat.{ℕ}
-use Rattle.numbers.specs.Answer.{Answer, given, refused, then, refusalIn}
-use Rattle.calendar.specs.declared.Year.{Year}
+use Rattle.numbers.specs.Answer.{given, refused, then, refusalIn}
 use Rattle.calendar.specs.declared.YearAnswer.{YearAnswer}
 use Rattle.calendar.specs.Years.{yearOf}
 use Rattle.calendar.specs.Answers.{yearAnswer}
+use Rattle.calendar.proofs.OneAnswer.{year-number}
 use Rattle.line.specs.declared.Line.{Line}
 use Rattle.line.specs.Line.{lineOf}
 use Rattle.paper.specs.Paper.{yearRefusal, answerRefusal}
 
-told : (x : YearAnswer) (a : Answer Year) → x ≡ yearAnswer a → x .refusal ≡ refusalIn a
-told x (given y) e = ap (λ (x : YearAnswer). x .refusal) e
-told x (refused n) e = ap (λ (x : YearAnswer). x .refusal) e
-
 -- a year's answer holds its refusal
 pub year-told : (calendar year : ℕ) (x : YearAnswer) → x ≡ yearAnswer (yearOf calendar year) → x .refusal ≡ yearRefusal calendar year
 unfolding yearRefusal
-year-told calendar year x e = told x (yearOf calendar year) e
+year-told calendar year x e = ap (λ (x : YearAnswer). x .refusal) e ∙ year-number (yearOf calendar year)
 
 -- a line that is refused is refused with its number ..
 pub line-refused : (bytes : List ℕ) (n : ℕ) → lineOf bytes ≡ refused n → n ≡ answerRefusal bytes

@@ -1,0 +1,10 @@
+pub mod Same
+pub mod Numbers
+pub mod TaggedLaws
+pub mod LongMonths
+pub mod YearFields
+pub mod Refusals
+pub mod Steps
+pub mod CoveredFields
+pub mod RecordLaws
+pub mod Figures

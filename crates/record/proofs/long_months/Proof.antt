@@ -1,0 +1,66 @@
+-- `record::long_months` meets its contract: before each turn the bits tell of the months from the place on.
+use mathlib.Core.Path.{_≡_, sym, _∙_, ap}
+use Prim.Native.Nat.{_-_, _≤_}
+use native.Mathlib.Omega.{arith}
+use borrow.Author.Needs.{needs}
+use lib.ListN.{length, drop, drop-of-length-le}
+use Rattle.record.specs.Record.{longMonths}
+use Rattle.record.proofs.LongMonths.{thirteen-bits, one-more}
+use Rattle.record.proofs.long_months.Statement.{statement}
+use Rattle.record.proofs.long_months.Tie as tie
+
+abbrev Inv-loop : tie.InvT-loop
+Inv-loop months bits₀ place₀ bits place = (place ≤ 13) × (bits ≡ longMonths (drop place months))
+
+abbrev μ-loop : tie.MeasureT-loop
+μ-loop months bits₀ place₀ bits place = place
+
+loop-holds : tie.Need-loop-holds Inv-loop μ-loop
+unfolding longMonths
+loop-holds c =
+    let all : length (c .args .t1) ≡ 13 = search needs in
+    (omega arith, sym (ap longMonths (drop-of-length-le (c .args .t1) {i = 13} (omega (arith, all)))))
+
+sub-place : tie.Need-sub-place Inv-loop μ-loop
+sub-place c = omega (arith, c .loop-test .taken)
+
+mul-with-month : tie.Need-mul-with-month Inv-loop μ-loop
+mul-with-month c = omega (arith, c .before .loop .inv .0)
+
+array-copy-out-with-month : tie.Need-array-copy-out-with-month Inv-loop μ-loop
+array-copy-out-with-month c = omega (arith, c .before .loop .inv .0, c .loop-test .taken)
+
+with-month-requires : tie.Need-with-month-requires Inv-loop μ-loop
+with-month-requires c κs =
+    let all : length (c .before .before .before .args .t1) ≡ 13 = search needs in
+    omega (arith, c .before .before .loop .inv .1, thirteen-bits (c .before .before .before .args .t1) (c .before .before .loop .place) all)
+
+loop-less : tie.Need-loop-less Inv-loop μ-loop
+loop-less c = omega (arith, c .before .before .loop-test .taken)
+
+loop-again : tie.Need-loop-again Inv-loop μ-loop
+loop-again c =
+    let turn = c .before .before .before in
+    let months = turn .before .args .t1 in
+    let all : length months ≡ 13 = search needs in
+    (omega (arith, turn .loop .inv .0), c .with-month .ensures ∙ one-more months (turn .loop .place) (turn .loop .bits) _ all (omega (arith, c .before .before .loop-test .taken)) (turn .loop .inv .0) (turn .loop .inv .1))
+
+returns : tie.Need-returns Inv-loop μ-loop
+returns c =
+    let none : c .before .loop .place ≡ 0 = omega (arith, c .loop-test .left) in
+    rw none at (c .before .loop .inv .1)
+
+pub long-months-spec : {M : Type 1} → statement M
+long-months-spec =
+    tie.close
+    (tie.spec
+    Inv-loop
+    μ-loop
+    loop-holds
+    sub-place
+    mul-with-month
+    array-copy-out-with-month
+    with-month-requires
+    loop-less
+    loop-again
+    returns)

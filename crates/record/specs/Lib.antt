@@ -1,0 +1,4 @@
+pub mod Tagged
+pub mod Record
+pub mod Answers
+pub mod Room
