@@ -118,8 +118,8 @@ fn bytes_of(fields: Fields) -> [u8; 25]
 
 // Writes the record of a year into the first 25 bytes of a buffer. Answers the refusal's number, or 0.
 pub fn write_record(calendar: u64, year: u64, buffer: &mut [u8]) -> u8
-    ensures number { λ r. ⌜ r ≡ refusalIn (writeOf calendar year (now (buffer .entry))) ⌝ }
-    ensures content { λ _. ⌜ now (buffer .exit) ≡ leftIn (now (buffer .entry)) (writeOf calendar year (now (buffer .entry))) ⌝ }
+    ensures refusal { λ r. ⌜ r ≡ refusalIn (writeOf calendar year (now (buffer .entry))) ⌝ }
+    ensures left { λ _. ⌜ now (buffer .exit) ≡ leftIn (now (buffer .entry)) (writeOf calendar year (now (buffer .entry))) ⌝ }
 {
     if buffer.len() < 25 {
         return 6;
