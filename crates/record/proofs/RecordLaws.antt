@@ -79,6 +79,7 @@ module _ (bytes : List ℕ) (x : Fields) where
         written = own-bytes bytes x are (eqb-true _ _ length) tags numbers;
       }
 
+  -- bytes are read with these fields exactly if they are the record of a covered year that has them
   pub accepted : Bytes bytes → Exactly (readOf bytes ≡ given x) (IsRecord bytes x)
   accepted are = record { if = accepted-if; only-if = accepted-only are }
 
