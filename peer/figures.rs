@@ -4,7 +4,7 @@
 use crate::calendar::{self, cycle_number, Calendar};
 use crate::months::{self, Month, Year};
 use crate::units::Fen;
-use crate::{eclipse, moon, record, refusal, senmyo, sun};
+use crate::{eclipse, moon, record, refusal, run, senmyo, sun};
 use std::collections::BTreeSet;
 
 const SUN_OF_1522: [i64; 12] = [
@@ -52,6 +52,7 @@ pub fn all() -> Vec<Figure> {
     figures.extend(edges_of_the_calendars());
     figures.extend(record_of_1522());
     figures.extend(count_of_records());
+    figures.extend(months_of_full_runs());
     figures
 }
 
@@ -195,6 +196,27 @@ fn count_of_records() -> Vec<Figure> {
     let years = calendar::ALL.into_iter().flat_map(months::covered_years);
     let records: BTreeSet<Vec<u8>> = years.map(|year| record::of_year(&year)).collect();
     vec![figure("records", records.len() as i64, 863 + 253)]
+}
+
+fn months_of_full_runs() -> Vec<Figure> {
+    let [senmyo, genka] = calendar::ALL.map(months_of_full_runs_in);
+    let most = senmyo.iter().chain(&genka).max().copied().unwrap_or(0);
+    let with_most = |counts: Vec<i64>| {
+        let with_most = counts.into_iter().filter(|&count| count == most);
+        with_most.count() as i64
+    };
+    vec![
+        figure("fourteen years, most months", most, 174),
+        figure("Senmyo, runs with most months", with_most(senmyo), 133),
+        figure("Genka, runs with most months", with_most(genka), 39),
+    ]
+}
+
+fn months_of_full_runs_in(calendar: Calendar) -> Vec<i64> {
+    let years = months::covered_years(calendar);
+    let runs = years.windows(run::MOST_YEARS.into());
+    let months = |run: &[Year]| run.iter().map(|year| year.months.len() as i64).sum();
+    runs.map(months).collect()
 }
 
 fn covered(calendar: i64, year: i64) -> Year {

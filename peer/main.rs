@@ -18,6 +18,8 @@ mod record;
 mod records;
 mod refusal;
 mod rounding;
+mod run;
+mod runs;
 mod senmyo;
 mod sun;
 mod units;
@@ -39,6 +41,7 @@ fn main() -> ExitCode {
         ["eclipses"] => print_eclipses(),
         ["instants"] => print_instants(),
         ["records"] => print_records(),
+        ["runs"] => print_runs(),
         ["figures"] => print_figures(),
         _ => usage(),
     }
@@ -90,6 +93,11 @@ fn print_records() -> ExitCode {
     ExitCode::SUCCESS
 }
 
+fn print_runs() -> ExitCode {
+    print!("{}", runs::all());
+    ExitCode::SUCCESS
+}
+
 fn print_figures() -> ExitCode {
     let figures = figures::all();
     for figure in &figures {
@@ -105,7 +113,7 @@ fn print_figures() -> ExitCode {
 fn usage() -> ExitCode {
     eprintln!(
         "usage: peer year CALENDAR YEAR | peer COMMAND\n\
-         COMMAND: years, answers, eclipses, instants, records or figures"
+         COMMAND: years, answers, eclipses, instants, records, runs or figures"
     );
     ExitCode::from(2)
 }

@@ -43,6 +43,15 @@ struct MidTerm {
     day: i64,
 }
 
+pub fn asked_year(calendar_number: u64, year_number: u64) -> Result<Year, Refusal> {
+    year(signed(calendar_number), signed(year_number))
+}
+
+/// A number too large stands for no calendar and no year, as the largest does.
+fn signed(number: u64) -> i64 {
+    i64::try_from(number).unwrap_or(i64::MAX)
+}
+
 pub fn year(calendar_number: i64, year_number: i64) -> Result<Year, Refusal> {
     let calendar = calendar::numbered(calendar_number).ok_or(Refusal::NoSuchCalendar)?;
     covered_years(calendar)

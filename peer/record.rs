@@ -69,14 +69,9 @@ pub fn of_year(year: &Year) -> Vec<u8> {
 
 pub fn write(calendar: u64, year: u64, buffer: &mut [u8]) -> Result<(), Refusal> {
     let filled = buffer.get_mut(..length()).ok_or(Refusal::WrongRecordSize)?;
-    let year = months::year(signed(calendar), signed(year))?;
+    let year = months::asked_year(calendar, year)?;
     filled.copy_from_slice(&of_year(&year));
     Ok(())
-}
-
-/// A number too large stands for no calendar and no year, as the largest does.
-fn signed(number: u64) -> i64 {
-    i64::try_from(number).unwrap_or(i64::MAX)
 }
 
 pub fn read(bytes: &[u8]) -> Result<Numbers, Refusal> {

@@ -3,9 +3,15 @@
 pub enum Refusal {
     NoSuchCalendar = 1,
     YearNotCovered = 2,
+    NoSuchMonth = 3,
+    NoSuchDay = 4,
+    DayNotCovered = 5,
     WrongRecordSize = 6,
     WrongTagOrLength = 7,
     WrongField = 8,
+    RunIsFull = 9,
+    RunOfOneYear = 10,
+    NotARun = 11,
     NotALine = 12,
 }
 

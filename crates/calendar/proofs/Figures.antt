@@ -7,6 +7,7 @@ use native.Mathlib.Omega.{arith}
 use lib.Dec.{ltb}
 use Rattle.numbers.specs.Answer.{given, refused}
 use Rattle.numbers.specs.Spans.{Holds}
+use Rattle.numbers.specs.Places.{places}
 use Rattle.months.specs.declared.Name.{Name}
 use Rattle.months.specs.Rules.{Rules, senmyo, genka, rulesOf, dayNumber}
 use Rattle.months.specs.Months.{termNumber, isLeap}
@@ -19,7 +20,7 @@ use Rattle.senmyo.proofs.Worked.{dayAt}
 use Rattle.units.specs.Units.{dayByo}
 use Rattle.calendar.specs.declared.Month.{Month}
 use Rattle.calendar.specs.Dates.{monthLength, dayOf, dateOf, cycle}
-use Rattle.calendar.specs.Years.{listed, noMonth, places, leapNumber, yearIn, yearOf}
+use Rattle.calendar.specs.Years.{listed, noMonth, leapNumber, yearIn, yearOf}
 use Rattle.calendar.proofs.OneDate.{date-of-day-of}
 
 -- ---- a year's months, worked out
@@ -35,7 +36,7 @@ module _ (r : Rules) (s : Steady r) (term : ℕ → ℕ) (last : (d : ℕ) → H
   unfolding worked
   listed-worked k = ap (λ (n : Name). record { number = n .number; leap = n .leap; length = monthLength r k; «first_day» = dayNumber r (r .start k) }) (name-told r s k (term (r .start (k + 1) - 1)) (last _))
 
-  places-worked : (k count n : ℕ) → places (listed r) k count n ≡ places (worked r term) k count n
+  places-worked : (k count n : ℕ) → places noMonth (listed r) k count n ≡ places noMonth (worked r term) k count n
   unfolding places
   places-worked k count zero = refl
   places-worked k zero (suc n) = rw (places-worked k zero n)

@@ -2,7 +2,7 @@ pub mod Steps
 pub mod Refusals
 pub mod Covered
 pub mod OneDate
-pub mod Places
+pub mod Listed
 pub mod YearLaws
 pub mod FirstDays
 pub mod OneAnswer

@@ -7,6 +7,9 @@ use Prim.Native.Nat.{ℕ, zero, suc, _+_, _-_, _<_, _≤_}
 use native.Mathlib.Omega.{arith}
 use borrow.Author.Tests.{lt-ltb}
 use lib.Dec.{ltb}
+use lib.ListN.{getD}
+use Rattle.numbers.specs.Places.{places}
+use Rattle.numbers.proofs.Places.{at-place}
 use Rattle.months.specs.declared.Calendar.{Calendar}
 use Rattle.months.specs.Rules.{Rules, rulesOf}
 use Rattle.months.specs.Months.{firstMonth, monthCount, isLeap, numberOf}
@@ -17,7 +20,7 @@ use Rattle.months.proofs.Calendars.{steady}
 use Rattle.months.proofs.CoveredYears.{covered-year}
 use Rattle.asked.specs.Room.{CoveredYear}
 use Rattle.calendar.specs.declared.Month.{Month}
-use Rattle.calendar.specs.Years.{listed, places, leapNumber, yearIn}
+use Rattle.calendar.specs.Years.{listed, noMonth, leapNumber, yearIn}
 use Rattle.calendar.proofs.Covered.{year-room}
 
 -- the days of all places together
@@ -31,7 +34,7 @@ usedOf [] = 0
 usedOf (m ∷ ms) = elim (ltb 0 (m .number)) [ true ↦ 1 + usedOf ms | false ↦ usedOf ms ]
 
 module _ (r : Rules) (s : Steady r) where
-  days-add-up : (k count n : ℕ) → count ≤ n → r .start k + daysOf (places (listed r) k count n) ≡ r .start (k + count)
+  days-add-up : (k count n : ℕ) → count ≤ n → r .start k + daysOf (places noMonth (listed r) k count n) ≡ r .start (k + count)
   unfolding places daysOf
   days-add-up k zero zero h = let e : k + 0 ≡ k = omega arith in rw e (omega arith)
   days-add-up k zero (suc n) h = omega (arith, days-add-up k zero n (omega arith))
@@ -44,7 +47,7 @@ module _ (r : Rules) (s : Steady r) where
   numbered : (k : ℕ) → 0 < numberOf r k
   numbered k = rw (number-of-last r s k) (omega arith)
 
-  places-used : (k count n : ℕ) → count ≤ n → usedOf (places (listed r) k count n) ≡ count
+  places-used : (k count n : ℕ) → count ≤ n → usedOf (places noMonth (listed r) k count n) ≡ count
   unfolding places usedOf
   places-used k zero zero h = refl
   places-used k zero (suc n) h = places-used k zero n (omega arith)
@@ -66,6 +69,11 @@ module _ (c : Calendar) (y : ℕ) (covered : CoveredYear (rulesOf c) y) where
   pub count-is-used : yearIn (rulesOf c) y .count ≡ usedOf (yearIn (rulesOf c) y .months)
   unfolding yearIn
   count-is-used = sym (places-used (rulesOf c) (steady c) (firstMonth (rulesOf c) y) (monthCount (rulesOf c) y) 13 (omega (arith, year-room c y covered .at-most)))
+
+  -- what stands at a place of its months
+  pub listed-at : (i : ℕ) (d : Month) → i < monthCount (rulesOf c) y → getD (yearIn (rulesOf c) y .months) i d ≡ listed (rulesOf c) (firstMonth (rulesOf c) y + i)
+  unfolding yearIn
+  listed-at i d h = at-place noMonth (listed (rulesOf c)) (firstMonth (rulesOf c) y) (monthCount (rulesOf c) y) 13 i d h (omega (arith, year-room c y covered .at-most))
 
 -- ---- the leap number
 

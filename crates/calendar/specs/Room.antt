@@ -3,11 +3,12 @@ use mathlib.Core.Path.{_≡_}
 use mathlib.Core.Bool.{true, false}
 use Prim.Native.Nat.{ℕ, _+_, _<_, _≤_}
 use lib.ListN.{set}
+use Rattle.numbers.specs.Places.{places}
 use Rattle.months.specs.declared.Span.{Span}
 use Rattle.months.specs.Rules.{Rules}
 use Rattle.months.specs.Months.{spanned, firstMonth, firstDay, nextFirstDay, isLeap, numberOf}
 use Rattle.calendar.specs.declared.Listing.{Listing}
-use Rattle.calendar.specs.Years.{listed, places, leapNumber}
+use Rattle.calendar.specs.Years.{listed, noMonth, leapNumber}
 
 -- ---- what is asked
 
@@ -33,4 +34,4 @@ listedAt r k place l =
     }
 
 abbrev pub listing : Rules → ℕ → ℕ → Listing
-listing r k count = record { leap = leapNumber (listed r) k count; months = places (listed r) k count 13 }
+listing r k count = record { leap = leapNumber (listed r) k count; months = places noMonth (listed r) k count 13 }

@@ -1,8 +1,8 @@
 -- A year and its months in order (01, "Months and leap"; what the program prints, at the end of "Worked figures").
 use mathlib.Core.Bool.{true, false}
-use mathlib.Core.List.{List, [], _∷_}
 use Prim.Native.Nat.{ℕ, zero, suc, _+_, _-_}
 use lib.ListN.{replicate}
+use Rattle.numbers.specs.Places.{places}
 use Rattle.numbers.specs.Answer.{Answer, given, need}
 use Rattle.months.specs.Rules.{Rules, dayNumber}
 use Rattle.months.specs.Months.{firstMonth, monthCount, firstDay, nextFirstDay, isLeap, numberOf}
@@ -19,12 +19,6 @@ listed r k = record { number = numberOf r k; leap = isLeap r k; length = monthLe
 abbrev pub noMonth : Month
 noMonth = record { number = 0; leap = false; length = 0; «first_day» = 0 }
 
--- so many places: first so many months from month k on, in order, then places that are not used
-unfoldable pub places : (ℕ → Month) → ℕ → ℕ → ℕ → List Month
-places month k count zero = []
-places month k zero (suc n) = noMonth ∷ places month k zero n
-places month k (suc count) (suc n) = month k ∷ places month (k + 1) count n
-
 -- the number of the leap month among so many from month k on, or 0
 unfoldable pub leapNumber : (ℕ → Month) → ℕ → ℕ → ℕ
 leapNumber month k zero = 0
@@ -35,7 +29,7 @@ unfoldable pub yearIn : Rules → ℕ → Year
 yearIn r y =
     let k : ℕ = firstMonth r y in
     let count : ℕ = monthCount r y in
-    record { days = nextFirstDay r y - firstDay r y; leap = leapNumber (listed r) k count; count = count; months = places (listed r) k count 13 }
+    record { days = nextFirstDay r y - firstDay r y; leap = leapNumber (listed r) k count; count = count; months = places noMonth (listed r) k count 13 }
 
 -- every field zero
 abbrev pub noYear : Year

@@ -1,5 +1,4 @@
 -- The third demand, for every covered year of both calendars.
-use mathlib.Core.Path.{_≡_}
 use Prim.Native.Nat.{ℕ, _+_, _-_, _<_, _≤_, _^_}
 use native.Mathlib.Omega.{arith}
 use Rattle.numbers.proofs.Spans.{later, span-from, span-before}
@@ -11,7 +10,7 @@ use Rattle.months.specs.Rules.{Rules, senmyo, genka, rulesOf}
 use Rattle.months.specs.Months.{monthOf, firstMonth, firstDay, nextFirstDay, yearWith}
 use Rattle.months.specs.Year.{MonthDays, OfYear, Year}
 use Rattle.months.specs.Room.{Covering}
-use Rattle.months.proofs.FirstMonths.{in-order, year-holds, year-from, year-to}
+use Rattle.months.proofs.FirstMonths.{years-in-order, year-holds, year-from, year-to}
 use Rattle.months.proofs.Years.{year-of}
 use Rattle.months.proofs.Calendars.{senmyo-steady, genka-steady, steady}
 use Rattle.months.proofs.Figures.{first-1685, first-698, senmyo-opens, senmyo-ends, genka-opens, genka-ends}
@@ -75,14 +74,10 @@ module _ (c : Calendar) (k : ℕ) (h : Covering (rulesOf c) k) where
 
 -- the covered years' months lie between the first year's and the last's
 pub after-first : (c : Calendar) (y : ℕ) → rulesOf c .firstYear ≤ y → firstMonth (rulesOf c) (rulesOf c .firstYear) ≤ firstMonth (rulesOf c) y
-after-first c y from =
-    let on : rulesOf c .firstYear + (y - rulesOf c .firstYear) ≡ y = omega (arith, from) in
-    rw on at (in-order (rulesOf c) (steady c) (rulesOf c .firstYear) (y - rulesOf c .firstYear))
+after-first c y from = years-in-order (rulesOf c) (steady c) (rulesOf c .firstYear) y from
 
 pub before-last : (c : Calendar) (y : ℕ) → y ≤ rulesOf c .lastYear → firstMonth (rulesOf c) (y + 1) ≤ firstMonth (rulesOf c) (rulesOf c .lastYear + 1)
-before-last c y to =
-    let on : (y + 1) + (rulesOf c .lastYear - y) ≡ rulesOf c .lastYear + 1 = omega (arith, to) in
-    rw on at (in-order (rulesOf c) (steady c) (y + 1) (rulesOf c .lastYear - y))
+before-last c y to = years-in-order (rulesOf c) (steady c) (y + 1) (rulesOf c .lastYear + 1) (omega (arith, to))
 
 -- a month of a covered year
 pub covering : (c : Calendar) (y k : ℕ) → rulesOf c .firstYear ≤ y → y ≤ rulesOf c .lastYear → OfYear (rulesOf c) y k → Covering (rulesOf c) k

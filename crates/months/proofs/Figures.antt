@@ -46,6 +46,11 @@ pub first-1523 : firstMonth senmyo 1523 ≡ 87454590
 unfolding dayAt
 first-1523 = known senmyo senmyo-steady 1523 87454590 tt
 
+-- fourteen years later by 174 months
+pub first-1537 : firstMonth senmyo 1537 ≡ 87454764
+unfolding dayAt
+first-1537 = known senmyo senmyo-steady 1537 87454764 tt
+
 pub first-1685 : firstMonth senmyo 1685 ≡ 87456594
 unfolding dayAt
 first-1685 = known senmyo senmyo-steady 1685 87456594 tt

@@ -47,6 +47,12 @@ module _ (r : Rules) (s : Steady r) (y : ℕ) where
       (span-from (r .start) (s .months-grow) (firstMonth r y) _
       (omega (arith, opens .from, later (r .mid) (s .terms-grow) (r .rainWater y) (r .rainWater y + 12 * n) (omega arith))))
 
+-- a later year has a later month 1, or the same
+pub years-in-order : (r : Rules) → Steady r → (y z : ℕ) → y ≤ z → firstMonth r y ≤ firstMonth r z
+years-in-order r s y z h =
+    let on : y + (z - y) ≡ z = omega (arith, h) in
+    rw on at (in-order r s y (z - y))
+
 -- ---- the year of a month
 
 module _ (r : Rules) (s : Steady r) where

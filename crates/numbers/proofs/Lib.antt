@@ -6,3 +6,5 @@ pub mod Rounding
 pub mod Tests
 pub mod Spans
 pub mod Answers
+pub mod Places
+pub mod Same

@@ -3,3 +3,5 @@ pub mod Rounding
 pub mod Difference
 pub mod Answer
 pub mod Spans
+pub mod Places
+pub mod Same

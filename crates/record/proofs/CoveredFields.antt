@@ -1,7 +1,7 @@
 -- The rule's fields of a covered year: where they stand in the year's list, and that they fit their bytes.
 use mathlib.Core.Path.{_≡_, refl, sym, ap, _∙_}
 use mathlib.Core.Bool.{true}
-use Prim.Native.Nat.{ℕ, _<_, _≤_, _^_}
+use Prim.Native.Nat.{ℕ, _+_, _<_, _≤_, _^_}
 use native.Mathlib.Omega.{arith}
 use lib.ListN.{getD}
 use lib.Pow.{pow-mono}
@@ -18,8 +18,7 @@ use Rattle.calendar.specs.declared.Month.{Month}
 use Rattle.calendar.specs.declared.Year.{Year}
 use Rattle.calendar.specs.Years.{listed, noMonth, yearIn, yearOf}
 use Rattle.calendar.proofs.Covered.{year-room}
-use Rattle.calendar.proofs.Places.{first-place}
-use Rattle.calendar.proofs.YearLaws.{leap-small}
+use Rattle.calendar.proofs.YearLaws.{listed-at, leap-small}
 use Rattle.calendar.proofs.FirstDays.{day-small}
 use Rattle.calendar.proofs.Refusals.{year-given}
 use Rattle.record.specs.Record.{longMonths, fieldsIn}
@@ -31,10 +30,10 @@ use Rattle.record.proofs.Steps.{fields-known}
 
 -- the first month listed begins on the year's first day
 first-listed : (c : Calendar) (y : ℕ) → CoveredYear (rulesOf c) y → getD (yearIn (rulesOf c) y .months) 0 noMonth .«first_day» ≡ dayNumber (rulesOf c) (firstDay (rulesOf c) y)
-unfolding yearIn
 first-listed c y covered =
     let room = year-room c y covered in
-    ap (λ (m : Month). m .«first_day») (first-place (listed (rulesOf c)) (firstMonth (rulesOf c) y) (monthCount (rulesOf c) y) 12 (omega (arith, room .at-least)))
+    let here : firstMonth (rulesOf c) y + 0 ≡ firstMonth (rulesOf c) y = omega arith in
+    rw here at (ap (λ (m : Month). m .«first_day») (listed-at c y covered 0 noMonth (omega (arith, room .at-least))))
 
 -- no bit of the long months is 1 but those of the year's months
 pub unused-bits : (r : Rules) (y : ℕ) → longMonths (yearIn r y .months) < 2 ^ monthCount r y

@@ -7,7 +7,8 @@ use Rattle.numbers.specs.Answer.{Answer, given, refused}
 use Rattle.months.specs.Rules.{rulesOf}
 use Rattle.calendar.proofs.Figures.{months-1522, months-643}
 use Rattle.record.specs.declared.Fields.{Fields}
-use Rattle.record.specs.Tagged.{bytesOf, fieldBytes, numbersOf, numberAt, tagsAt, numbersAt, same}
+use Rattle.numbers.specs.Same.{sameBy}
+use Rattle.record.specs.Tagged.{bytesOf, fieldBytes, numbersOf, numberAt, tagsAt, numbersAt}
 use Rattle.record.specs.Record.{layout, longBit, longMonths, size, fieldsIn, writeOf, readOf}
 use Rattle.record.proofs.CoveredFields.{fields-listed}
 use Rattle.record.proofs.RecordLaws.{read-back}
@@ -98,17 +99,17 @@ read-genka-1522 = refl
 
 -- 8: 1522 with another first day, leap number, or long months: one more, and an unused bit
 read-other-day : reading (fields 1 1522 2276997 0 3402) ≡ refused 8
-unfolding readOf tagsAt numbersAt numberAt numbersOf same fieldBytes bytesOf rulesOf
+unfolding readOf tagsAt numbersAt numberAt numbersOf sameBy fieldBytes bytesOf rulesOf
 read-other-day = rw fields-1522
 
 read-other-leap : reading (fields 1 1522 2276996 1 3402) ≡ refused 8
-unfolding readOf tagsAt numbersAt numberAt numbersOf same fieldBytes bytesOf rulesOf
+unfolding readOf tagsAt numbersAt numberAt numbersOf sameBy fieldBytes bytesOf rulesOf
 read-other-leap = rw fields-1522
 
 read-other-months : reading (fields 1 1522 2276996 0 3403) ≡ refused 8
-unfolding readOf tagsAt numbersAt numberAt numbersOf same fieldBytes bytesOf rulesOf
+unfolding readOf tagsAt numbersAt numberAt numbersOf sameBy fieldBytes bytesOf rulesOf
 read-other-months = rw fields-1522
 
 read-unused-bit : reading (fields 1 1522 2276996 0 36170) ≡ refused 8
-unfolding readOf tagsAt numbersAt numberAt numbersOf same fieldBytes bytesOf rulesOf
+unfolding readOf tagsAt numbersAt numberAt numbersOf sameBy fieldBytes bytesOf rulesOf
 read-unused-bit = rw fields-1522

@@ -11,8 +11,9 @@ use lib.Seq.{drop-cons}
 use lib.Pow.{pow-mono, pow-pos}
 use lib.Dec.{eqb}
 use borrow.Author.Tests.{eq-eqb, ne-eqb}
+use Rattle.numbers.specs.Places.{places}
 use Rattle.calendar.specs.declared.Month.{Month}
-use Rattle.calendar.specs.Years.{places}
+use Rattle.calendar.specs.Years.{noMonth}
 use Rattle.record.specs.Record.{longBit, longMonths}
 
 module _ (m : Month) (bits : ℕ) where
@@ -56,7 +57,7 @@ one-more ms place bits d all low high told =
     sym (rw (on, sym told) at (one-before ms (place - 1) d (omega (arith, all, low, high))))
 
 -- no bit but those of a year's months is 1
-pub unused-bits-0 : (month : ℕ → Month) (k count n : ℕ) → longMonths (places month k count n) < 2 ^ count
+pub unused-bits-0 : (month : ℕ → Month) (k count n : ℕ) → longMonths (places noMonth month k count n) < 2 ^ count
 unfolding places longMonths longBit
 unused-bits-0 month k count zero = pow-pos count
 unused-bits-0 month k zero (suc n) = omega (arith, unused-bits-0 month k zero n)

@@ -1,9 +1,10 @@
 -- Tagged fields as bytes: "one-byte tag, two-byte length, high byte first" (01, "The year record"), for any list of fields.
-use mathlib.Core.Bool.{Bool, true, false, _&&_}
+use mathlib.Core.Bool.{Bool, true, _&&_}
 use mathlib.Core.List.{List, [], _∷_, _++_}
 use Prim.Native.Nat.{ℕ, zero, suc, _+_, _*_, _/_, _%_}
 use lib.ListN.{getD}
 use lib.Dec.{eqb}
+use Rattle.numbers.specs.Same.{sameBy}
 use Rattle.record.specs.declared.Fields.{Fields}
 
 -- a field: its tag, the length of its number in bytes, and which number that is
@@ -50,8 +51,5 @@ numbersAt [] bytes place = []
 numbersAt (f ∷ fs) bytes place = numberAt bytes (place + 3) (f .length) ∷ numbersAt fs bytes (place + 3 + f .length)
 
 -- two lists of numbers are the same
-unfoldable pub same : List ℕ → List ℕ → Bool
-same [] [] = true
-same [] (m ∷ ms) = false
-same (n ∷ ns) [] = false
-same (n ∷ ns) (m ∷ ms) = eqb n m && same ns ms
+abbrev pub same : List ℕ → List ℕ → Bool
+same = sameBy eqb

@@ -1,7 +1,7 @@
 -- `calendar::list` meets its contract: it puts the month at its place, and keeps its number if it is leap.
 use mathlib.Core.Path.{ap, sym, _∙_}
 use borrow.Author.Needs.{needs}
-use Rattle.calendar.proofs.Places.{leap-listed, regular-listed}
+use Rattle.calendar.proofs.Listed.{leap-listed, regular-listed}
 use Rattle.calendar.proofs.list.Statement.{statement}
 use Rattle.calendar.proofs.list.Tie as tie
 

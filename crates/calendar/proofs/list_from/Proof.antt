@@ -3,13 +3,14 @@ use mathlib.Core.Path.{_≡_, refl, _∙_}
 use Prim.Native.Nat.{_+_, _-_, _≤_}
 use native.Mathlib.Omega.{arith}
 use borrow.Author.Needs.{needs}
+use Rattle.numbers.specs.Places.{places}
 use Rattle.months.specs.Rules.{rulesOf}
 use Rattle.months.specs.Months.{spanned}
 use Rattle.asked.specs.Room.{CoveredSpan}
 use Rattle.asked.proofs.Covered.{span-days}
-use Rattle.calendar.specs.Years.{places, leapNumber}
+use Rattle.calendar.specs.Years.{leapNumber}
 use Rattle.calendar.specs.Room.{CoveredMonths, listing}
-use Rattle.calendar.proofs.Places.{next-listed}
+use Rattle.calendar.proofs.Listed.{next-listed}
 use Rattle.calendar.proofs.list_from.Statement.{statement}
 use Rattle.calendar.proofs.list_from.Tie as tie
 

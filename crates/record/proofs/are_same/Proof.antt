@@ -4,8 +4,11 @@ use Prim.Native.Nat.{_-_, _≤_}
 use native.Mathlib.Omega.{arith}
 use borrow.Author.Needs.{needs}
 use lib.ListN.{length, drop}
+use lib.Dec.{eqb}
+use borrow.Author.Tests.{eq-eqb, ne-eqb}
+use Rattle.numbers.proofs.Same.{same-on, not-same-on, same-end}
 use Rattle.record.specs.Tagged.{same}
-use Rattle.record.proofs.Same.{not-same, same-on, not-same-on, same-end}
+use Rattle.record.proofs.Same.{not-same}
 use Rattle.record.proofs.are_same.Statement.{statement}
 use Rattle.record.proofs.are_same.Tie as tie
 
@@ -31,7 +34,7 @@ returns-2 : tie.Need-returns-2 Inv-loop μ-loop
 returns-2 c =
     let loop = c .before .before .before .before .loop in
     let taken = c .before .before .before .loop-test .taken in
-    sym (sym (loop .inv .2) ∙ not-same-on _ _ (loop .place) taken (omega (arith, taken, loop .inv .1)) (c .if2 .taken))
+    sym (sym (loop .inv .2) ∙ not-same-on eqb _ _ (loop .place) _ _ taken (omega (arith, taken, loop .inv .1)) (ne-eqb _ _ (c .if2 .taken)))
 
 add-place : tie.Need-add-place Inv-loop μ-loop
 add-place c = search needs
@@ -43,12 +46,12 @@ loop-again : tie.Need-loop-again Inv-loop μ-loop
 loop-again c =
     let loop = c .before .before .before .before .loop in
     let taken = c .before .before .before .loop-test .taken in
-    (omega (arith, taken), loop .inv .1, sym (same-on _ _ (loop .place) taken (omega (arith, taken, loop .inv .1)) (c .if2 .left)) ∙ loop .inv .2)
+    (omega (arith, taken), loop .inv .1, sym (same-on eqb _ _ (loop .place) _ _ taken (omega (arith, taken, loop .inv .1)) (eq-eqb _ _ (c .if2 .left))) ∙ loop .inv .2)
 
 returns-3 : tie.Need-returns-3 Inv-loop μ-loop
 returns-3 c =
     let loop = c .before .loop in
-    sym (sym (loop .inv .2) ∙ same-end _ _ (loop .place) (c .loop-test .left) (omega (arith, c .loop-test .left, loop .inv .1)))
+    sym (sym (loop .inv .2) ∙ same-end eqb _ _ (loop .place) (c .loop-test .left) (omega (arith, c .loop-test .left, loop .inv .1)))
 
 pub are-same-spec : {M : Type 1} → statement M
 are-same-spec =

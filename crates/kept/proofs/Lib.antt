@@ -1,0 +1,6 @@
+pub mod Same
+pub mod Content
+pub mod Extending
+pub mod Examined
+pub mod Steps
+pub mod Figures

@@ -1,0 +1,164 @@
+-- The third demand's last sentence: after any calls, a run is that of the years which they leave, and each of its days has one date.
+use mathlib.Core.Path.{_≡_, refl, sym, ap, _∙_}
+use mathlib.Core.Bool.{Bool, true, false, _&&_}
+use mathlib.Core.List.{List, [], _∷_}
+use Prim.Native.Nat.{ℕ, _+_, _-_}
+use native.Mathlib.Omega.{arith}
+use lib.Dec.{ltb}
+use borrow.Author.Tests.{ltb-true}
+use Rattle.numbers.specs.Answer.{Answer, given, need}
+use Rattle.numbers.proofs.Answers.{one-given}
+use Rattle.asked.specs.Asked.{isCalendar, rulesFor, isCovered}
+use Rattle.asked.proofs.Covered.{covered-year-told, covered-year-tested}
+use Rattle.calendar.specs.declared.Date.{Date}
+use Rattle.calendar.specs.Dates.{dayOf, dateIn, dateOf}
+use Rattle.calendar.proofs.Refusals.{date-given}
+use Rattle.calendar.proofs.OneDate.{date-of-day-of, day-of-date-of}
+use Rattle.kept.specs.declared.Run.{Run}
+use Rattle.kept.specs.Runs.{noRun, runOf, isRun}
+use Rattle.kept.specs.Room.{Kept}
+use Rattle.kept.proofs.Content.{calendar-told, first-told, years-told, is-own, count-fits}
+use Rattle.kept.proofs.Examined.{KeptYears, kept-is}
+use Rattle.run.specs.Calls.{openOf, extendOf, dropOf, holdsYear, holdsDay, runDayOf, runDateOf}
+use Rattle.run.specs.Answers.{runAnswer}
+use Rattle.run.specs.History.{Call, extend, drop, runAfter, runAfterAll, Years, yearsAfter, yearsAfterAll, OneDate, Demanded}
+use Rattle.run.proofs.Lookups.{held-day-covered, held-date-year, year-day-held, place-day-held, one-place}
+use Rattle.run.proofs.Refusals.{open-given, run-day-given}
+
+-- ---- what a run answers is the calendar's own
+
+module _ (run : Run) (kept : Kept run) where
+  is : isRun run ≡ true
+  is = kept-is run kept
+
+  its-day : (y m : ℕ) (leap : Bool) (d : ℕ) → holdsYear run y ≡ true → runDayOf run y m leap d ≡ dayOf (run .calendar) y m leap d
+  unfolding runDayOf
+  its-day y m leap d holds = rw (is, holds)
+
+  its-date : (n : ℕ) → holdsDay run n ≡ true → runDateOf run n ≡ dateOf (run .calendar) n
+  unfolding runDateOf
+  its-date n holds = rw (is, holds)
+
+  one-date : (n : ℕ) → holdsDay run n ≡ true → OneDate run n
+  one-date n holds =
+      let c = run .calendar in
+      let t = dateIn (rulesFor c) (n + rulesFor c .dayZero) in
+      let own : dateOf c n ≡ given t = date-given c n t .if (kept .room .known, (held-day-covered run kept n holds, refl)) in
+      record {
+        date = t;
+        found = its-date n holds ∙ own;
+        calendars = own;
+        back = its-day (t .year) (t .month) (t .leap) (t .day) (held-date-year run kept n holds) ∙ day-of-date-of c n t own;
+        no-other = λ s e. one-given s t (sym (date-of-day-of c (s .year) (s .month) (s .leap) (s .day) n (run-day-given run (s .year) (s .month) (s .leap) (s .day) n .only-if e .1 .1)) ∙ own);
+      }
+
+  -- a date that has a day in the run is the date of that day in it
+  back : (t : Date) (n : ℕ) → runDayOf run (t .year) (t .month) (t .leap) (t .day) ≡ given n → (holdsDay run n ≡ true) × (runDateOf run n ≡ given t)
+  back t n e =
+      let c = run .calendar in
+      let (held, own) = run-day-given run (t .year) (t .month) (t .leap) (t .day) n .only-if e .1 in
+      let dated = date-of-day-of c (t .year) (t .month) (t .leap) (t .day) n own in
+      let here = one-given (dateIn (rulesFor c) (n + rulesFor c .dayZero)) t (date-given c n t .only-if dated .1 .1) in
+      let holds = year-day-held run kept n (date-given c n t .only-if dated .1 .0) (ap (λ (s : Date). holdsYear run (s .year)) here ∙ held) in
+      (holds, its-date n holds ∙ dated)
+
+-- ---- a run of some years
+
+module _ (c : ℕ) (y : Years) (years : KeptYears c (y .first) (y .number)) where
+  abbrev its-run : Run
+  its-run = runOf c (y .first) (y .number)
+
+  its-kept : Kept its-run
+  its-kept =
+      record {
+        own = is-own c (y .first) (y .number) its-run refl;
+        room = rw (calendar-told c (y .first) (y .number), first-told c (y .first) (y .number), years-told c (y .first) (y .number)) (years .room);
+        at-least-1 = rw (years-told c (y .first) (y .number)) (years .at-least-1);
+      }
+
+  -- it is as the third demand has it
+  pub demanded : Demanded c y its-run
+  demanded =
+      record {
+        content = refl;
+        no-11 = kept-is its-run its-kept;
+        at-least-1 = years .at-least-1;
+        at-most-14 = years .room .at-most-14;
+        covered = λ z from to. covered-year-tested (rulesFor c) z (record { from = omega (arith, from, years .room .from); to = omega (arith, to, years .room .to) });
+        at-most-174 = count-fits its-run (its-kept .own) (its-kept .room);
+        one-place = one-place its-run its-kept;
+        one-date = one-date its-run its-kept;
+        no-other-day = place-day-held its-run its-kept;
+        one-day = λ z m leap d holds. its-day its-run its-kept z m leap d holds ∙ ap (λ (k : ℕ). dayOf k z m leap d) (calendar-told c (y .first) (y .number));
+        back = back its-run its-kept;
+      }
+
+  -- ---- .. and after a call
+
+  -- a run that has the content of the years that are left
+  record Leaves (after : Run) (left : Years) : Type 0 where
+    content : after ≡ runOf c (left .first) (left .number)
+    years-left : KeptYears c (left .first) (left .number)
+
+  unchanged : Leaves its-run y
+  unchanged = record { content = refl; years-left = years }
+
+  -- the call's conditions, once the run is known to be one
+  extend-tests : extendOf its-run ≡ need (isCovered (rulesFor c) (y .first + y .number)) 2 (need (ltb (y .number) 14) 9 (given (runOf c (y .first) (y .number + 1))))
+  unfolding extendOf
+  extend-tests = rw (kept-is its-run its-kept, calendar-told c (y .first) (y .number), first-told c (y .first) (y .number), years-told c (y .first) (y .number))
+
+  drop-tests : dropOf its-run ≡ need (ltb 1 (y .number)) 10 (given (runOf c (y .first + 1) (y .number - 1)))
+  unfolding dropOf
+  drop-tests = rw (kept-is its-run its-kept, calendar-told c (y .first) (y .number), first-told c (y .first) (y .number), years-told c (y .first) (y .number))
+
+  extend-leaves : Leaves (runAnswer its-run (extendOf its-run) .run) (yearsAfter (rulesFor c) y extend)
+  extend-leaves = rw extend-tests (by-tests (isCovered (rulesFor c) (y .first + y .number)) (ltb (y .number) 14) refl refl)
+    where
+      by-tests : (a b : Bool) → isCovered (rulesFor c) (y .first + y .number) ≡ a → ltb (y .number) 14 ≡ b
+          → Leaves (runAnswer its-run (need a 2 (need b 9 (given (runOf c (y .first) (y .number + 1))))) .run) (elim (a && b) [ true ↦ record { first = y .first; number = y .number + 1 } | false ↦ y ])
+      by-tests true true e f =
+          record {
+            content = refl;
+            years-left = record {
+              room = record { known = years .room .known; from = years .room .from; to = omega (arith, covered-year-told (rulesFor c) (y .first + y .number) e .to); at-most-14 = omega (arith, ltb-true (y .number) 14 f) };
+              at-least-1 = omega arith;
+            };
+          }
+      by-tests true false e f = unchanged
+      by-tests false b e f = unchanged
+
+  drop-leaves : Leaves (runAnswer its-run (dropOf its-run) .run) (yearsAfter (rulesFor c) y drop)
+  drop-leaves = rw drop-tests (by-test (ltb 1 (y .number)) refl)
+    where
+      by-test : (b : Bool) → ltb 1 (y .number) ≡ b → Leaves (runAnswer its-run (need b 10 (given (runOf c (y .first + 1) (y .number - 1)))) .run) (elim b [ true ↦ record { first = y .first + 1; number = y .number - 1 } | false ↦ y ])
+      by-test true e =
+          let more = ltb-true 1 (y .number) e in
+          record {
+            content = refl;
+            years-left = record {
+              room = record { known = years .room .known; from = omega (arith, years .room .from); to = omega (arith, years .room .to, more); at-most-14 = omega (arith, years .room .at-most-14) };
+              at-least-1 = omega (arith, more);
+            };
+          }
+      by-test false e = unchanged
+
+  call-leaves : (call : Call) → Leaves (runAfter its-run call) (yearsAfter (rulesFor c) y call)
+  call-leaves extend = extend-leaves
+  call-leaves drop = drop-leaves
+
+-- ---- any calls, from any run
+
+after-calls : (c : ℕ) (y : Years) → KeptYears c (y .first) (y .number) → (run : Run) → run ≡ runOf c (y .first) (y .number) → (calls : List Call) → Demanded c (yearsAfterAll (rulesFor c) y calls) (runAfterAll run calls)
+unfolding runAfterAll yearsAfterAll
+after-calls c y years run e [] = rw e (demanded c y years)
+after-calls c y years run e (call ∷ calls) =
+    let left = call-leaves c y years call in
+    after-calls c (yearsAfter (rulesFor c) y call) (left .years-left) (runAfter run call) (ap (λ (x : Run). runAfter x call) e ∙ left .content) calls
+
+-- from a run opened at a covered year
+pub demanded-after : (c y : ℕ) → isCalendar c ≡ true → isCovered (rulesFor c) y ≡ true → (calls : List Call) → Demanded c (yearsAfterAll (rulesFor c) (record { first = y; number = 1 }) calls) (runAfterAll (runAnswer noRun (openOf c y) .run) calls)
+demanded-after c y known covered calls =
+    let told = covered-year-told (rulesFor c) y covered in
+    let years : KeptYears c y 1 = record { room = record { known = known; from = told .from; to = omega (arith, told .to); at-most-14 = omega arith }; at-least-1 = omega arith } in
+    after-calls c (record { first = y; number = 1 }) years _ (ap (λ (a : Answer Run). runAnswer noRun a .run) (open-given c y (runOf c y 1) .if (known, (covered, refl)))) calls

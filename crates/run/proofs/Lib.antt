@@ -1,0 +1,6 @@
+pub mod Dropping
+pub mod Steps
+pub mod DateNumbers
+pub mod Lookups
+pub mod Refusals
+pub mod History

@@ -1,0 +1,92 @@
+-- The conditions of the calls as the code tests them, one after the other.
+use mathlib.Core.Path.{_≡_, sym, ap, _∙_}
+use mathlib.Core.Bool.{Bool, true, false, _&&_, and-eq-true-iff}
+use Prim.Native.Nat.{ℕ, _+_, _<_, _≤_}
+use native.Mathlib.Omega.{arith}
+use borrow.Author.Tests.{le-leb, lt-leb, lt-ltb, le-ltb, eq-eqb}
+use Rattle.numbers.specs.Answer.{given, refused, need, refusalIn}
+use Rattle.numbers.proofs.Answers.{holds}
+use Rattle.months.specs.declared.Calendar.{Calendar}
+use Rattle.asked.specs.Asked.{isCalendar, numbered, rulesFor, isCovered, yearAsked}
+use Rattle.asked.proofs.Covered.{covered-year-told}
+use Rattle.kept.specs.declared.Run.{Run}
+use Rattle.kept.specs.Runs.{runOf, isRun}
+use Rattle.kept.specs.Room.{Extendable}
+use Rattle.kept.proofs.Examined.{is-kept}
+use Rattle.kept.proofs.Steps.{covered-tested}
+use Rattle.run.specs.Calls.{openOf, extendOf, holdsYear, runDayOf, runDateOf, dayInRun, dateInRun}
+
+-- a year that is refused is refused alike where a run is opened at it, and one that is not is covered
+module _ (c y : ℕ) (n : ℕ) (asked : n ≡ refusalIn (yearAsked c y)) where
+  pub open-refused : (n ≡ 0 → ⊥) → openOf c y ≡ refused n
+  unfolding openOf yearAsked
+  open-refused h = by-tests (isCalendar c) (isCovered (rulesFor c) y) asked
+    where
+      by-tests : (a b : Bool) → n ≡ refusalIn {A = Calendar × ℕ} (need a 1 (need b 2 (given (numbered c, y)))) → need a 1 (need b 2 (given (runOf c y 1))) ≡ refused n
+      by-tests true true e = absurd (h e)
+      by-tests true false e = ap refused (sym e)
+      by-tests false b e = ap refused (sym e)
+
+  covered : n ≡ 0 → (isCalendar c && isCovered (rulesFor c) y) ≡ true
+  covered h = sym (covered-tested c y) ∙ eq-eqb (refusalIn (yearAsked c y)) 0 (sym asked ∙ h)
+
+  pub open-known : n ≡ 0 → isCalendar c ≡ true
+  open-known h = and-eq-true-iff (isCalendar c) (isCovered (rulesFor c) y) .0 (covered h) .0
+
+  pub open-covered : n ≡ 0 → isCovered (rulesFor c) y ≡ true
+  open-covered h = and-eq-true-iff (isCalendar c) (isCovered (rulesFor c) y) .0 (covered h) .1
+
+-- ---- a run that was examined
+
+module _ (run : Run) where
+  module _ (is : isRun run ≡ true) where
+    -- its calendar is known, so that the year after its last is covered or not
+    its-calendar : isCalendar (run .calendar) ≡ true
+    its-calendar = is-kept run is .room .known
+
+    -- so the test of both tells of the year alone
+    pub extend-not-covered : (isCalendar (run .calendar) && isCovered (rulesFor (run .calendar)) (run .«first_year» + run .years)) ≡ false → extendOf run ≡ refused 2
+    unfolding extendOf
+    extend-not-covered h = rw (is, rw its-calendar at h)
+
+    module _ (h : (isCalendar (run .calendar) && isCovered (rulesFor (run .calendar)) (run .«first_year» + run .years)) ≡ true) where
+      next-covered : isCovered (rulesFor (run .calendar)) (run .«first_year» + run .years) ≡ true
+      next-covered = rw its-calendar at h
+
+      -- .. then the number of years is asked for
+      pub extend-full : 14 ≤ run .years → extendOf run ≡ refused 9
+      unfolding extendOf
+      extend-full full = rw (is, next-covered, le-ltb (run .years) 14 full)
+
+      pub extended : run .years < 14 → extendOf run ≡ given (runOf (run .calendar) (run .«first_year») (run .years + 1))
+      unfolding extendOf
+      extended more = rw (is, next-covered, lt-ltb (run .years) 14 more)
+
+      -- .. and there is room for one more
+      pub can-extend : run .years < 14 → Extendable run
+      can-extend more =
+          let kept = is-kept run is in
+          record {
+            own = kept .own;
+            room = record { known = kept .room .known; from = kept .room .from; to = omega (arith, covered-year-told (rulesFor (run .calendar)) (run .«first_year» + run .years) next-covered .to); at-most-14 = omega (arith, more) };
+          }
+
+  -- what follows the examination
+  pub date-in-it : (n : ℕ) → isRun run ≡ true → runDateOf run n ≡ dateInRun run n
+  unfolding runDateOf
+  date-in-it n h = holds 11 _ _ h
+
+  module _ (y m : ℕ) (leap : Bool) (d : ℕ) where
+    pub day-in-it : isRun run ≡ true → runDayOf run y m leap d ≡ dayInRun run y m leap d
+    unfolding runDayOf
+    day-in-it h = holds 11 _ _ h
+
+    -- the two tests of the year
+    pub year-too-early : y < run .«first_year» → dayInRun run y m leap d ≡ refused 2
+    year-too-early h = rw (lt-leb (run .«first_year») y h)
+
+    pub year-too-late : run .«first_year» ≤ y → run .«first_year» + run .years ≤ y → dayInRun run y m leap d ≡ refused 2
+    year-too-late low h = rw (le-leb (run .«first_year») y low, le-ltb y (run .«first_year» + run .years) h)
+
+  pub year-held : (y : ℕ) → run .«first_year» ≤ y → y < run .«first_year» + run .years → holdsYear run y ≡ true
+  year-held y low high = rw (le-leb (run .«first_year») y low, lt-ltb y (run .«first_year» + run .years) high)

@@ -1,0 +1,81 @@
+-- Calls on a run one after the other, and what the third demand says of the run after them.
+use mathlib.Core.Path.{_≡_}
+use mathlib.Core.Bool.{Bool, true, false, _&&_}
+use mathlib.Core.List.{List, [], _∷_}
+use Prim.Native.Nat.{ℕ, _+_, _-_, _%_, _<_, _≤_}
+use lib.Dec.{ltb}
+use lib.ListN.{getD}
+use Rattle.numbers.specs.Answer.{given}
+use Rattle.months.specs.Rules.{Rules}
+use Rattle.asked.specs.Asked.{rulesFor, isCovered}
+use Rattle.calendar.specs.declared.Date.{Date}
+use Rattle.calendar.specs.Dates.{dayOf, dateOf}
+use Rattle.kept.specs.declared.Run.{Run}
+use Rattle.kept.specs.Runs.{runOf, isRun}
+use Rattle.run.specs.Calls.{extendOf, dropOf, holdsYear, holdsDay, runDayOf, runDateOf}
+use Rattle.run.specs.Answers.{runAnswer}
+
+-- "any extending and dropping, refused calls too"
+pub data Call : Type 0 where
+  extend : Call
+  drop : Call
+
+-- the run that a call gives back
+abbrev pub runAfter : Run → Call → Run
+runAfter run extend = runAnswer run (extendOf run) .run
+runAfter run drop = runAnswer run (dropOf run) .run
+
+-- .. and all calls of a list, the first of them first
+unfoldable pub runAfterAll : Run → List Call → Run
+runAfterAll run [] = run
+runAfterAll run (call ∷ calls) = runAfterAll (runAfter run call) calls
+
+-- "the consecutive years": the first, and how many
+pub record Years : Type 0 where
+  pub first : ℕ
+  pub number : ℕ
+
+-- "which those calls leave": one more, if it is covered and there are fewer than 14; or without the oldest, if there are more than one
+abbrev pub yearsAfter : Rules → Years → Call → Years
+yearsAfter r y extend = elim (isCovered r (y .first + y .number) && ltb (y .number) 14) [ true ↦ record { first = y .first; number = y .number + 1 } | false ↦ y ]
+yearsAfter r y drop = elim (ltb 1 (y .number)) [ true ↦ record { first = y .first + 1; number = y .number - 1 } | false ↦ y ]
+
+-- .. and all calls of a list
+unfoldable pub yearsAfterAll : Rules → Years → List Call → Years
+yearsAfterAll r y [] = y
+yearsAfterAll r y (call ∷ calls) = yearsAfterAll r (yearsAfter r y call) calls
+
+-- place i has day n
+pub record PlaceHas (run : Run) (i n : ℕ) : Type 0 where
+  pub inside : i < run .count
+  pub from : getD (run .«first_days») i 0 ≤ n
+  pub to : n < getD (run .«first_days») i 0 + getD (run .«last_dates») i 0 % 100
+
+-- exactly one place has day n
+pub record OnePlace (run : Run) (n : ℕ) : Type 0 where
+  pub place : ℕ
+  pub has : PlaceHas run place n
+  pub no-other : (i : ℕ) → PlaceHas run i n → i ≡ place
+
+-- day n has exactly one date in the run, and it is the calendar's
+pub record OneDate (run : Run) (n : ℕ) : Type 0 where
+  pub date : Date
+  pub found : runDateOf run n ≡ given date
+  pub calendars : dateOf (run .calendar) n ≡ given date
+  pub back : runDayOf run (date .year) (date .month) (date .leap) (date .day) ≡ given n
+  pub no-other : (t : Date) → runDayOf run (t .year) (t .month) (t .leap) (t .day) ≡ given n → t ≡ date
+
+-- "the consecutive years which those calls leave, in at most 174 months, and each day in it has exactly one date"
+pub record Demanded (c : ℕ) (y : Years) (run : Run) : Type 0 where
+  pub content : run ≡ runOf c (y .first) (y .number)
+  pub no-11 : isRun run ≡ true
+  pub at-least-1 : 1 ≤ y .number
+  pub at-most-14 : y .number ≤ 14
+  pub covered : (z : ℕ) → y .first ≤ z → z < y .first + y .number → isCovered (rulesFor c) z ≡ true
+  pub at-most-174 : run .count ≤ 174
+  pub one-place : (n : ℕ) → holdsDay run n ≡ true → OnePlace run n
+  pub one-date : (n : ℕ) → holdsDay run n ≡ true → OneDate run n
+  pub no-other-day : (i n : ℕ) → PlaceHas run i n → holdsDay run n ≡ true
+  -- and each date of its years has the calendar's one day, or its refusal; the day is one of the run's, and has that date again
+  pub one-day : (z m : ℕ) (leap : Bool) (d : ℕ) → holdsYear run z ≡ true → runDayOf run z m leap d ≡ dayOf c z m leap d
+  pub back : (t : Date) (n : ℕ) → runDayOf run (t .year) (t .month) (t .leap) (t .day) ≡ given n → (holdsDay run n ≡ true) × (runDateOf run n ≡ given t)

@@ -1,0 +1,391 @@
+// Prints what the calls on a kept run answer: opening at good years and bad ones, extending past fourteen years and dropping to one, damaged runs,
+// and days and dates looked up. Of a run it prints the four numbers of its head and the sums of its two rows of places; of a full run, every place.
+ghost use Prim.Native.Nat.{_<_, _≤_};
+use calendar::DateAnswer;
+use calendar::DayAnswer;
+use kept::Run;
+use libc::STDOUT_FILENO;
+use run::RunAnswer;
+
+fn print_number(number: u64) {
+    io::print_decimal(STDOUT_FILENO, number);
+}
+
+fn print_after_space(number: u64) {
+    io::write_all(STDOUT_FILENO, b" ");
+    print_number(number);
+}
+
+fn print_line_end() {
+    io::write_all(STDOUT_FILENO, b"\n");
+}
+
+fn widened(number: u32) -> u64
+    ensures { λ r. ⌜ r < 4294967296 ⌝ }
+{
+    number as u64
+}
+
+fn sum_of(numbers: [u32; 174]) -> u64 {
+    let mut sum: u64 = 0;
+    for place in 0..174usize {
+        sum += widened(numbers[place]);
+    }
+    sum
+}
+
+// The refusal's number or 0, and the run.
+fn print_answer(answer: RunAnswer) {
+    let run = answer.run;
+    let first_days = run.first_days;
+    let last_dates = run.last_dates;
+    print_number(answer.refusal as u64);
+    print_after_space(run.calendar as u64);
+    print_after_space(run.first_year as u64);
+    print_after_space(run.years as u64);
+    print_after_space(run.count as u64);
+    print_after_space(sum_of(first_days));
+    print_after_space(sum_of(last_dates));
+}
+
+// The refusal's number or 0, and the day, after a space.
+fn print_day(answer: DayAnswer) {
+    match answer {
+        DayAnswer::Day(day) => {
+            print_after_space(0);
+            print_after_space(day as u64);
+        }
+        DayAnswer::Refused(refusal) => {
+            print_after_space(refusal as u64);
+            print_after_space(0);
+        }
+    }
+}
+
+fn print_numbers_of_date(year: u64, month: u64, leap: bool, day: u64) {
+    print_after_space(year);
+    print_after_space(month);
+    print_after_space(leap as u64);
+    print_after_space(day);
+}
+
+// The refusal's number or 0, and the date, after a space.
+fn print_date(answer: DateAnswer) {
+    match answer {
+        DateAnswer::Date(date) => {
+            print_after_space(0);
+            print_numbers_of_date(
+                date.year as u64,
+                date.month as u64,
+                date.leap,
+                date.day as u64,
+            );
+        }
+        DateAnswer::Refused(refusal) => {
+            print_after_space(refusal as u64);
+            print_numbers_of_date(0, 0, false, 0);
+        }
+    }
+}
+
+fn print_opening(calendar: u64, year: u64) {
+    print_number(calendar);
+    print_after_space(year);
+    io::write_all(STDOUT_FILENO, b" ");
+    print_answer(run::open_run(calendar, year));
+    print_line_end();
+}
+
+fn print_openings() {
+    print_opening(1, 1522);
+    print_opening(1, 822);
+    print_opening(1, 1684);
+    print_opening(2, 445);
+    print_opening(2, 697);
+    print_opening(1, 821);
+    print_opening(1, 1685);
+    print_opening(2, 444);
+    print_opening(2, 698);
+    print_opening(2, 1522);
+    print_opening(1, 643);
+    print_opening(0, 1522);
+    print_opening(3, 1522);
+    print_opening(257, 1522);
+    print_opening(1, 67_058);
+    print_opening(1, 18_446_744_073_709_551_615);
+    print_opening(18_446_744_073_709_551_615, 18_446_744_073_709_551_615);
+}
+
+fn print_opened(calendar: u64, year: u64) -> Run {
+    let answer = run::open_run(calendar, year);
+    print_answer(answer);
+    print_line_end();
+    answer.run
+}
+
+fn print_extended(run: Run) -> Run {
+    let answer = run::extend_run(run);
+    print_answer(answer);
+    print_line_end();
+    answer.run
+}
+
+fn print_shortened(run: Run) -> Run {
+    let answer = run::drop_oldest(run);
+    print_answer(answer);
+    print_line_end();
+    answer.run
+}
+
+fn print_extended_often(run: Run, times: usize) -> Run {
+    let mut longer = run;
+    for _ in 0..times {
+        longer = print_extended(longer);
+    }
+    longer
+}
+
+fn print_shortened_often(run: Run, times: usize) -> Run {
+    let mut shorter = run;
+    for _ in 0..times {
+        shorter = print_shortened(shorter);
+    }
+    shorter
+}
+
+fn print_places(run: Run) {
+    for place in 0..174usize {
+        print_number(run.first_days[place] as u64);
+        print_after_space(run.last_dates[place] as u64);
+        print_line_end();
+    }
+}
+
+// A month's name; the days of its first and last date and of the date past it; the dates of its first and last day.
+fn print_month(run: Run, first: u64, name: u32, length: u64)
+    requires { ⌜ (first < 4294967296) × ((1 ≤ length) × (length < 100)) ⌝ }
+{
+    let year = (name % 1_000_000 / 100) as u64;
+    let month = (name % 100) as u64;
+    let leap = 1_000_000 <= name;
+    print_number(year);
+    print_after_space(month);
+    print_after_space(leap as u64);
+    print_day(run::run_day_of(run, year, month, leap, 1));
+    print_day(run::run_day_of(run, year, month, leap, length));
+    print_day(run::run_day_of(run, year, month, leap, length + 1));
+    print_date(run::run_date_of(run, first));
+    print_date(run::run_date_of(run, first + length - 1));
+    print_line_end();
+}
+
+fn print_month_at(run: Run, place: usize)
+    requires { ⌜ place < 174 ⌝ }
+{
+    let last_date = run.last_dates[place];
+    let length = (last_date % 100) as u64;
+    if 0 < length {
+        print_month(run, widened(run.first_days[place]), last_date / 100, length);
+    }
+}
+
+fn print_months(run: Run) {
+    for place in 0..174usize {
+        print_month_at(run, place);
+    }
+}
+
+// A run filled, looked through, moved on by a year, dropped to one year, and extended again.
+fn print_kept(calendar: u64, year: u64) {
+    let first = print_opened(calendar, year);
+    let full = print_extended_often(first, 15);
+    print_places(full);
+    print_months(full);
+    let moved = print_extended(print_shortened(full));
+    let last = print_shortened_often(moved, 15);
+    print_extended_often(last, 3);
+}
+
+// Runs that reach a calendar's last year, of fourteen years and of one.
+fn print_last_years() {
+    let first = print_opened(1, 1671);
+    print_extended_often(first, 15);
+    let last = print_opened(2, 697);
+    print_shortened(print_extended(last));
+}
+
+fn print_damaged(number: u64, run: Run) {
+    print_number(number);
+    io::write_all(STDOUT_FILENO, b" ");
+    print_answer(run::extend_run(run));
+    io::write_all(STDOUT_FILENO, b" ");
+    print_answer(run::drop_oldest(run));
+    print_day(run::run_day_of(run, 1523, 3, true, 1));
+    print_date(run::run_date_of(run, 2_277_350));
+    print_line_end();
+}
+
+fn with_head(run: Run, calendar: u8, first_year: u16, years: u8, count: u8) -> Run {
+    let first_days = run.first_days;
+    let last_dates = run.last_dates;
+    Run {
+        calendar,
+        first_year,
+        years,
+        count,
+        first_days,
+        last_dates,
+    }
+}
+
+// The run of 1522 to 1524 under another calendar, first year, number of years or count.
+fn print_other_heads(run: Run) {
+    print_damaged(1, with_head(run, 0, 1522, 3, 37));
+    print_damaged(2, with_head(run, 2, 1522, 3, 37));
+    print_damaged(3, with_head(run, 255, 1522, 3, 37));
+    print_damaged(4, with_head(run, 1, 1521, 3, 37));
+    print_damaged(5, with_head(run, 1, 1523, 3, 37));
+    print_damaged(6, with_head(run, 1, 0, 3, 37));
+    print_damaged(7, with_head(run, 1, 65_535, 3, 37));
+    print_damaged(8, with_head(run, 1, 1522, 0, 37));
+    print_damaged(9, with_head(run, 1, 1522, 2, 37));
+    print_damaged(10, with_head(run, 1, 1522, 4, 37));
+    print_damaged(11, with_head(run, 1, 1522, 15, 37));
+    print_damaged(12, with_head(run, 1, 1522, 255, 37));
+    print_damaged(13, with_head(run, 1, 1522, 3, 36));
+    print_damaged(14, with_head(run, 1, 1522, 3, 38));
+    print_damaged(15, with_head(run, 1, 1522, 3, 0));
+}
+
+// A run with more in one place of its first days, and in the same place of its last dates. (The remainder keeps the sums in their words; a sound run has
+// no number of ten digits.)
+fn with_more(run: Run, place: usize, days: u32, dates: u32) -> Run
+    requires { ⌜ (place < 174) × ((days ≤ 100000000) × (dates ≤ 100000000)) ⌝ }
+{
+    let mut changed = run;
+    changed.first_days[place] = run.first_days[place] % 1_000_000_000 + days;
+    changed.last_dates[place] = run.last_dates[place] % 1_000_000_000 + dates;
+    changed
+}
+
+// A place's year, month number, leap or not, length and first day, each by itself.
+fn print_other_place(number: u64, run: Run, place: usize)
+    requires { ⌜ (number ≤ 100) × (place < 174) ⌝ }
+{
+    print_damaged(number, with_more(run, place, 0, 10_000));
+    print_damaged(number + 1, with_more(run, place, 0, 100));
+    print_damaged(number + 2, with_more(run, place, 0, 100_000_000));
+    print_damaged(number + 3, with_more(run, place, 0, 1));
+    print_damaged(number + 4, with_more(run, place, 1, 0));
+}
+
+// The run of 1522 and so many years more.
+fn run_from_1522(more: usize) -> Run {
+    let answer = run::open_run(1, 1522);
+    let mut longer = answer.run;
+    for _ in 0..more {
+        let next = run::extend_run(longer);
+        longer = next.run;
+    }
+    longer
+}
+
+// Copies of the run of 1522 to 1524, the first of them sound, the others damaged. Then its head over the places of a year more, its places under the head
+// that a drop would give, and a run of zeros.
+fn print_each_damaged() {
+    let run = run_from_1522(2);
+    print_damaged(0, run);
+    print_other_heads(run);
+    print_other_place(16, run, 20);
+    print_other_place(21, run, 173);
+    print_damaged(26, with_head(run_from_1522(3), 1, 1522, 3, 37));
+    print_damaged(27, with_head(run, 1, 1523, 2, 25));
+    let refused = run::open_run(0, 0);
+    print_damaged(28, refused.run);
+}
+
+fn print_day_of(run: Run, year: u64, month: u64, leap: bool, day: u64) {
+    print_number(year);
+    print_after_space(month);
+    print_after_space(leap as u64);
+    print_after_space(day);
+    print_day(run::run_day_of(run, year, month, leap, day));
+    print_line_end();
+}
+
+fn print_other_years(run: Run) {
+    print_day_of(run, 1521, 1, false, 1);
+    print_day_of(run, 1525, 1, false, 1);
+    print_day_of(run, 0, 1, false, 1);
+    print_day_of(run, 67_058, 1, false, 1);
+    print_day_of(
+        run,
+        18_446_744_073_709_551_615,
+        18_446_744_073_709_551_615,
+        true,
+        18_446_744_073_709_551_615,
+    );
+    print_day_of(run, 1521, 13, false, 0);
+}
+
+fn print_other_months(run: Run) {
+    print_day_of(run, 1522, 0, false, 1);
+    print_day_of(run, 1522, 13, false, 1);
+    print_day_of(run, 1522, 257, false, 1);
+    print_day_of(run, 1522, 18_446_744_073_709_551_615, false, 1);
+    print_day_of(run, 1522, 3, true, 1);
+    print_day_of(run, 1522, 13, true, 0);
+}
+
+fn print_days(run: Run) {
+    print_day_of(run, 1522, 12, false, 30);
+    print_day_of(run, 1522, 12, false, 31);
+    print_day_of(run, 1523, 1, false, 1);
+    print_day_of(run, 1523, 3, false, 30);
+    print_day_of(run, 1523, 3, false, 31);
+    print_day_of(run, 1523, 3, true, 0);
+    print_day_of(run, 1523, 3, true, 1);
+    print_day_of(run, 1523, 3, true, 29);
+    print_day_of(run, 1523, 3, true, 30);
+    print_day_of(run, 1523, 3, true, 257);
+    print_day_of(run, 1523, 3, true, 18_446_744_073_709_551_615);
+    print_day_of(run, 1524, 12, false, 30);
+    print_day_of(run, 1524, 12, false, 31);
+}
+
+fn print_date_of(run: Run, day: u64) {
+    print_number(day);
+    print_date(run::run_date_of(run, day));
+    print_line_end();
+}
+
+fn print_dates(run: Run) {
+    print_date_of(run, 0);
+    print_date_of(run, 2_276_995);
+    print_date_of(run, 2_276_996);
+    print_date_of(run, 2_277_349);
+    print_date_of(run, 2_277_350);
+    print_date_of(run, 2_277_733);
+    print_date_of(run, 2_277_734);
+    print_date_of(run, 2_278_087);
+    print_date_of(run, 2_278_088);
+    print_date_of(run, 4_297_244_292);
+    print_date_of(run, 18_446_744_073_709_551_615);
+}
+
+fn print_look_ups() {
+    let run = run_from_1522(2);
+    print_other_years(run);
+    print_other_months(run);
+    print_days(run);
+    print_dates(run);
+}
+
+fn main() {
+    print_openings();
+    print_kept(1, 1523);
+    print_kept(2, 638);
+    print_last_years();
+    print_each_damaged();
+    print_look_ups();
+}

@@ -1,0 +1,176 @@
+//! The kept run: consecutive covered years of one calendar with their months in
+//! order, in a room of fixed size. Its calendar, first year and number of years
+//! fix the rest, so every call works the run anew from these three and compares.
+
+use crate::calendar;
+use crate::months::{self, Year};
+use crate::refusal::Refusal;
+use std::ops::Range;
+use std::slice;
+
+pub const MOST_YEARS: u8 = 14;
+pub const ROOM: usize = 174;
+
+/// Room for one month.
+#[derive(Clone, Copy, PartialEq)]
+pub struct Place {
+    pub year: u16,
+    pub number: u8,
+    pub leap: bool,
+    pub length: u8,
+    pub first_day: u32,
+}
+
+const UNUSED: Place = Place {
+    year: 0,
+    number: 0,
+    leap: false,
+    length: 0,
+    first_day: 0,
+};
+
+#[derive(Clone, PartialEq)]
+pub struct Run {
+    pub calendar: u8,
+    pub first_year: u16,
+    pub years: u8,
+    pub count: u8,
+    pub places: [Place; ROOM],
+}
+
+pub const ZEROS: Run = Run {
+    calendar: 0,
+    first_year: 0,
+    years: 0,
+    count: 0,
+    places: [UNUSED; ROOM],
+};
+
+/// A refusal's number, or 0 if there is none, and the run as it is afterwards.
+pub type Answer = (i64, Run);
+
+/// Year, month, whether leap, and day.
+pub type Date = (u64, u64, bool, u64);
+
+impl Place {
+    fn days(&self) -> Range<u64> {
+        let first_day = u64::from(self.first_day);
+        first_day..first_day + u64::from(self.length)
+    }
+}
+
+pub fn open(calendar: u64, year: u64) -> Answer {
+    let year = months::asked_year(calendar, year);
+    answer(year.map(|year| of_years(slice::from_ref(&year))), &ZEROS)
+}
+
+pub fn extend(run: &Run) -> Answer {
+    answer(extended(run), run)
+}
+
+pub fn drop_oldest(run: &Run) -> Answer {
+    answer(shortened(run), run)
+}
+
+fn answer(changed: Result<Run, Refusal>, unchanged: &Run) -> Answer {
+    match changed {
+        Ok(run) => (0, run),
+        Err(refusal) => (refusal.number(), unchanged.clone()),
+    }
+}
+
+fn extended(run: &Run) -> Result<Run, Refusal> {
+    examine(run)?;
+    let next_year = run.first_year + u16::from(run.years);
+    months::year(run.calendar.into(), next_year.into())?;
+    of_head(run.calendar, run.first_year, run.years + 1).ok_or(Refusal::RunIsFull)
+}
+
+fn shortened(run: &Run) -> Result<Run, Refusal> {
+    examine(run)?;
+    of_head(run.calendar, run.first_year + 1, run.years - 1).ok_or(Refusal::RunOfOneYear)
+}
+
+pub fn day_of(run: &Run, year: u64, month: u64, leap: bool, day: u64) -> Result<u64, Refusal> {
+    let month = asked_month(months_held(run)?, year, month, leap)?;
+    if (1..=u64::from(month.length)).contains(&day) {
+        Ok(month.days().start + day - 1)
+    } else {
+        Err(Refusal::NoSuchDay)
+    }
+}
+
+fn asked_month(held: &[Place], year: u64, number: u64, leap: bool) -> Result<&Place, Refusal> {
+    let mut of_year = held
+        .iter()
+        .filter(|month| u64::from(month.year) == year)
+        .peekable();
+    of_year.peek().ok_or(Refusal::YearNotCovered)?;
+    of_year
+        .find(|month| u64::from(month.number) == number && month.leap == leap)
+        .ok_or(Refusal::NoSuchMonth)
+}
+
+pub fn date_of(run: &Run, day: u64) -> Result<Date, Refusal> {
+    let month = months_held(run)?
+        .iter()
+        .find(|month| month.days().contains(&day))
+        .ok_or(Refusal::DayNotCovered)?;
+    let day_of_month = day - month.days().start + 1;
+    Ok((
+        month.year.into(),
+        month.number.into(),
+        month.leap,
+        day_of_month,
+    ))
+}
+
+fn months_held(run: &Run) -> Result<&[Place], Refusal> {
+    examine(run)?;
+    Ok(&run.places[..usize::from(run.count)])
+}
+
+fn examine(run: &Run) -> Result<(), Refusal> {
+    match of_head(run.calendar, run.first_year, run.years) {
+        Some(by_the_rules) if *run == by_the_rules => Ok(()),
+        _ => Err(Refusal::NotARun),
+    }
+}
+
+/// The run that these three fix; none if the years are too few or too many, or
+/// not all covered.
+fn of_head(calendar: u8, first_year: u16, years: u8) -> Option<Run> {
+    let calendar = calendar::numbered(calendar.into())?;
+    if !(1..=MOST_YEARS).contains(&years) {
+        return None;
+    }
+    let covered = months::covered_years(calendar);
+    let mut runs = covered.windows(years.into());
+    let held = runs.find(|held| held[0].number == first_year.into());
+    held.map(of_years)
+}
+
+fn of_years(years: &[Year]) -> Run {
+    let months: Vec<Place> = years.iter().flat_map(places).collect();
+    let mut run = Run {
+        calendar: years[0].calendar.number() as u8,
+        first_year: years[0].number as u16,
+        years: years.len() as u8,
+        count: months.len() as u8,
+        places: [UNUSED; ROOM],
+    };
+    run.places[..months.len()].copy_from_slice(&months);
+    run
+}
+
+fn places(year: &Year) -> Vec<Place> {
+    let months = year.months.iter();
+    let places = months.map(|month| Place {
+        year: year.number as u16,
+        number: month.number as u8,
+        leap: month.leap,
+        length: month.length as u8,
+        first_day: month.first_day as u32,
+    });
+    places.collect()
+}
