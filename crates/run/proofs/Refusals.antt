@@ -5,7 +5,7 @@ use Prim.Native.Nat.{ℕ, _+_, _-_}
 use native.Mathlib.Omega.{arith}
 use lib.Dec.{ltb}
 use Rattle.numbers.specs.Answer.{Answer, given, refused, need}
-use Rattle.numbers.proofs.Answers.{Exactly, after, gives, refuses, passes, never, not-refused, fails}
+use Rattle.numbers.proofs.Answers.{Exactly, after, after-so, gives, refuses, refuses-so, passes, never, not-refused, fails}
 use Rattle.months.specs.Rules.{Rules}
 use Rattle.asked.specs.Asked.{isCalendar, rulesFor, isCovered, hasMonth, monthNamed}
 use Rattle.calendar.specs.declared.Date.{Date}
@@ -109,16 +109,8 @@ module _ (run : Run) (y m : ℕ) (leap : Bool) (d : ℕ) where
   pub run-day-refused-2 : Exactly (runDayOf run y m leap d ≡ refused 2) ((isRun run ≡ true) × (holdsYear run y ≡ false))
   unfolding runDayOf
   run-day-refused-2 =
-      record {
-        if = λ h. passes 11 _ _ 2 (λ e. omega (arith, e)) .if (h .0, fails 2 _ _ (h .1));
-        only-if = λ e.
-            let (is, rest) = passes 11 _ _ 2 (λ e. omega (arith, e)) .only-if e in
-            (is, by-test is (holdsYear run y) refl rest);
-      }
-    where
-      by-test : isRun run ≡ true → (b : Bool) → holdsYear run y ≡ b → need b 2 own-day ≡ refused 2 → holdsYear run y ≡ false
-      by-test is true e h = absurd (false≢true (sym (day-refused-2 (run .calendar) y m leap d .only-if h .1) ∙ covered is e))
-      by-test is false e h = e
+      after-so (passes 11 _ _ 2 (λ e. omega (arith, e)))
+      (λ is. refuses-so 2 _ (holdsYear run y) (λ holds e. false≢true (sym (day-refused-2 (run .calendar) y m leap d .only-if e .1) ∙ covered is holds)))
 
   -- of what the run holds those two need not be said
   of-held : {A B C : Type 0} → Exactly A ((isRun run ≡ true) × ((holdsYear run y ≡ true) × B)) → Exactly B ((isCalendar (run .calendar) ≡ true) × ((isCovered rules y ≡ true) × C)) → Exactly A ((isRun run ≡ true) × ((holdsYear run y ≡ true) × C))
@@ -155,16 +147,8 @@ module _ (run : Run) (n : ℕ) where
   pub run-date-refused-5 : Exactly (runDateOf run n ≡ refused 5) ((isRun run ≡ true) × (holdsDay run n ≡ false))
   unfolding runDateOf
   run-date-refused-5 =
-      record {
-        if = λ h. passes 11 _ _ 5 (λ e. omega (arith, e)) .if (h .0, fails 5 _ _ (h .1));
-        only-if = λ e.
-            let (is, rest) = passes 11 _ _ 5 (λ e. omega (arith, e)) .only-if e in
-            (is, by-test is (holdsDay run n) refl rest);
-      }
-    where
-      by-test : isRun run ≡ true → (b : Bool) → holdsDay run n ≡ b → need b 5 own-date ≡ refused 5 → holdsDay run n ≡ false
-      by-test is true e h = absurd (false≢true (sym (date-refused-5 (run .calendar) n .only-if h .1) ∙ held-day-covered run (is-kept run is) n e))
-      by-test is false e h = e
+      after-so (passes 11 _ _ 5 (λ e. omega (arith, e)))
+      (λ is. refuses-so 5 _ (holdsDay run n) (λ holds e. false≢true (sym (date-refused-5 (run .calendar) n .only-if e .1) ∙ held-day-covered run (is-kept run is) n holds)))
 
 -- ---- the run of zeros that a refused opening gives is none
 

@@ -1,40 +1,43 @@
 -- The conditions of the calls as the code tests them, one after the other.
-use mathlib.Core.Path.{_≡_, sym, ap, _∙_}
-use mathlib.Core.Bool.{Bool, true, false, _&&_, and-eq-true-iff}
+use mathlib.Core.Path.{_≡_, sym, ap}
+use mathlib.Core.Bool.{Bool, true, false, _&&_}
 use Prim.Native.Nat.{ℕ, _+_, _<_, _≤_}
 use native.Mathlib.Omega.{arith}
-use borrow.Author.Tests.{le-leb, lt-leb, lt-ltb, le-ltb, eq-eqb}
-use Rattle.numbers.specs.Answer.{given, refused, need, refusalIn}
-use Rattle.numbers.proofs.Answers.{holds}
+use borrow.Author.Tests.{le-leb, lt-leb, lt-ltb, le-ltb}
+use Rattle.numbers.specs.Answer.{given, refused, need}
+use Rattle.numbers.proofs.Answers.{not-refused, one-given, one-refusal, holds}
 use Rattle.months.specs.declared.Calendar.{Calendar}
 use Rattle.asked.specs.Asked.{isCalendar, numbered, rulesFor, isCovered, yearAsked}
+use Rattle.asked.proofs.Given.{asked-given}
 use Rattle.asked.proofs.Covered.{covered-year-told}
 use Rattle.kept.specs.declared.Run.{Run}
 use Rattle.kept.specs.Runs.{runOf, isRun}
 use Rattle.kept.specs.Room.{Extendable}
 use Rattle.kept.proofs.Examined.{is-kept}
-use Rattle.kept.proofs.Steps.{covered-tested}
 use Rattle.run.specs.Calls.{openOf, extendOf, holdsYear, runDayOf, runDateOf, dayInRun, dateInRun}
 
--- a year that is refused is refused alike where a run is opened at it, and one that is not is covered
-module _ (c y : ℕ) (n : ℕ) (asked : n ≡ refusalIn (yearAsked c y)) where
-  pub open-refused : (n ≡ 0 → ⊥) → openOf c y ≡ refused n
-  unfolding openOf yearAsked
-  open-refused h = by-tests (isCalendar c) (isCovered (rulesFor c) y) asked
-    where
-      by-tests : (a b : Bool) → n ≡ refusalIn {A = Calendar × ℕ} (need a 1 (need b 2 (given (numbered c, y)))) → need a 1 (need b 2 (given (runOf c y 1))) ≡ refused n
-      by-tests true true e = absurd (h e)
-      by-tests true false e = ap refused (sym e)
-      by-tests false b e = ap refused (sym e)
+-- ---- a year that was asked for
 
-  covered : n ≡ 0 → (isCalendar c && isCovered (rulesFor c) y) ≡ true
-  covered h = sym (covered-tested c y) ∙ eq-eqb (refusalIn (yearAsked c y)) 0 (sym asked ∙ h)
+-- it is refused alike where a run is opened at it ..
+pub open-refused : (c y n : ℕ) → yearAsked c y ≡ refused n → openOf c y ≡ refused n
+unfolding openOf yearAsked
+open-refused c y n e = by-tests (isCalendar c) (isCovered (rulesFor c) y) e
+  where
+    by-tests : (a b : Bool) → need {A = Calendar × ℕ} a 1 (need b 2 (given (numbered c, y))) ≡ refused n → need a 1 (need b 2 (given (runOf c y 1))) ≡ refused n
+    by-tests true true e = absurd (not-refused n _ e)
+    by-tests true false e = ap refused (one-refusal 2 n e)
+    by-tests false b e = ap refused (one-refusal 1 n e)
 
-  pub open-known : n ≡ 0 → isCalendar c ≡ true
-  open-known h = and-eq-true-iff (isCalendar c) (isCovered (rulesFor c) y) .0 (covered h) .0
+-- .. and else it is covered, and the year that was found
+pub record Asked (c y x : ℕ) : Type 0 where
+  pub known : isCalendar c ≡ true
+  pub covered : isCovered (rulesFor c) y ≡ true
+  pub year : x ≡ y
 
-  pub open-covered : n ≡ 0 → isCovered (rulesFor c) y ≡ true
-  open-covered h = and-eq-true-iff (isCalendar c) (isCovered (rulesFor c) y) .0 (covered h) .1
+pub asked-told : (c y : ℕ) (k : Calendar) (x : ℕ) → yearAsked c y ≡ given (k, x) → Asked c y x
+asked-told c y k x e =
+    let g = asked-given c y (k, x) .only-if e in
+    record { known = g .0; covered = g .1 .0; year = sym (ap (λ (a : Calendar × ℕ). a .1) (one-given (numbered c, y) (k, x) (g .1 .1))) }
 
 -- ---- a run that was examined
 

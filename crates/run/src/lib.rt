@@ -6,6 +6,7 @@ ghost use Rattle.kept.specs.Room.{Kept};
 ghost use Rattle.run.specs.Calls.{openOf, extendOf, dropOf, runDayOf, runDateOf, dayInRun, dateInRun};
 ghost use Rattle.run.specs.Answers.{runAnswer};
 ghost use Rattle.run.specs.Room.{Droppable, OneBegun, LastBegun, FirstNamed, HeldYear, monthPlace};
+use asked::YearAsked;
 pub use calendar::Date;
 pub use calendar::DateAnswer;
 pub use calendar::DayAnswer;
@@ -22,16 +23,15 @@ pub fn open_run(calendar: u64, year: u64) -> RunAnswer
     ensures { λ r. ⌜ r ≡ runAnswer noRun (openOf calendar year) ⌝ }
 {
     let asked = asked::asked_year(calendar, year);
-    let refusal = asked::year_refusal(asked);
-    if refusal != 0 {
+    let YearAsked::Covered(_, covered) = asked else {
         return RunAnswer {
-            refusal,
+            refusal: asked::year_refusal(asked),
             run: kept::empty_run(0, 0),
         };
-    }
+    };
     RunAnswer {
         refusal: 0,
-        run: kept::run_of(calendar as u8, year as u16, 1),
+        run: kept::run_of(calendar as u8, covered, 1),
     }
 }
 

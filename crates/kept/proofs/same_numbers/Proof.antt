@@ -1,6 +1,6 @@
 -- `kept::same_numbers` meets its contract: before each turn the two are the same if they are so from the place on.
 use mathlib.Core.Path.{_≡_, refl, sym, _∙_}
-use Prim.Native.Nat.{_-_, _≤_}
+use Prim.Native.Nat.{_-_, _<_, _≤_}
 use native.Mathlib.Omega.{arith}
 use borrow.Author.Needs.{needs}
 use borrow.Author.Tests.{eq-eqb, ne-eqb}
@@ -32,15 +32,21 @@ mul-if1-2 c = search needs
 array-read-if1-2 : tie.Need-array-read-if1-2 Inv-loop μ-loop
 array-read-if1-2 c = search needs
 
+-- within the loop the place is one of both
+in-a : (c : tie.In-loop Inv-loop μ-loop) → c .before .loop .place < length (c .before .before .args .t1)
+in-a c =
+    let all : length (c .before .before .args .t1) ≡ 174 = search needs in
+    omega (arith, all, c .loop-test .taken)
+
+in-b : (c : tie.In-loop Inv-loop μ-loop) → c .before .loop .place < length (c .before .before .args .t2)
+in-b c =
+    let all : length (c .before .before .args .t2) ≡ 174 = search needs in
+    omega (arith, all, c .loop-test .taken)
+
 returns : tie.Need-returns Inv-loop μ-loop
 returns c =
-    let turn = c .before in
-    let a = turn .before .before .args .t1 in
-    let b = turn .before .before .args .t2 in
-    let all-a : length a ≡ 174 = search needs in
-    let all-b : length b ≡ 174 = search needs in
-    let loop = turn .before .loop in
-    sym (sym (loop .inv .1) ∙ not-same-on eqb a b (loop .place) _ _ (omega (arith, all-a, turn .loop-test .taken)) (omega (arith, all-b, turn .loop-test .taken)) (ne-eqb _ _ (c .if1 .taken)))
+    let loop = c .before .before .loop in
+    sym (sym (loop .inv .1) ∙ not-same-on eqb _ _ (loop .place) _ _ (in-a (c .before)) (in-b (c .before)) (ne-eqb _ _ (c .if1 .taken)))
 
 add-place : tie.Need-add-place Inv-loop μ-loop
 add-place c = search needs
@@ -50,13 +56,8 @@ loop-less c = omega arith
 
 loop-again : tie.Need-loop-again Inv-loop μ-loop
 loop-again c =
-    let turn = c .before in
-    let a = turn .before .before .args .t1 in
-    let b = turn .before .before .args .t2 in
-    let all-a : length a ≡ 174 = search needs in
-    let all-b : length b ≡ 174 = search needs in
-    let loop = turn .before .loop in
-    (omega (arith, turn .loop-test .taken), sym (same-on eqb a b (loop .place) _ _ (omega (arith, all-a, turn .loop-test .taken)) (omega (arith, all-b, turn .loop-test .taken)) (eq-eqb _ _ (c .if1 .left))) ∙ loop .inv .1)
+    let loop = c .before .before .loop in
+    (omega (arith, c .before .loop-test .taken), sym (same-on eqb _ _ (loop .place) _ _ (in-a (c .before)) (in-b (c .before)) (eq-eqb _ _ (c .if1 .left))) ∙ loop .inv .1)
 
 returns-2 : tie.Need-returns-2 Inv-loop μ-loop
 returns-2 c =
