@@ -14,18 +14,19 @@ use Rattle.kept.specs.declared.Run.{Run}
 
 -- ---- what a run holds: of each month two numbers, from which its year, number, leap or not, length and days can be told
 
--- its first day, by day number
-abbrev pub heldFirst : Rules → ℕ → ℕ
-heldFirst r k = dayNumber r (r .start k)
-
--- its last date; a date as one number: year, month and day side by side, and 100,000,000 more in a leap month
+-- a date as one number: year, month and day side by side, and 100,000,000 more in a leap month
 abbrev pub dateNumber : Date → ℕ
 dateNumber t = elim (t .leap) [ true ↦ 100000000 | false ↦ 0 ] + (t .year * 10000 + t .month * 100 + t .day)
 
+-- the first day of month k, by day number
+abbrev pub heldFirst : Rules → ℕ → ℕ
+heldFirst r k = dayNumber r (r .start k)
+
+-- its last date, as one number
 abbrev pub heldLast : Rules → ℕ → ℕ
 heldLast r k = dateNumber (record { year = yearWith r k; month = numberOf r k; leap = isLeap r k; day = monthLength r k })
 
--- so many years from a first one on: their months in order, in 174 places
+-- the run of so many years from a first one on: their months in order, in 174 places
 unfoldable pub runOf : ℕ → ℕ → ℕ → Run
 runOf c first years =
     let r : Rules = rulesFor c in
@@ -50,6 +51,7 @@ noRun = emptyRun 0 0
 
 -- ---- refusal 11: "not a run: its content differs from what the rules give"
 
+-- two runs are the same in every number and every place
 unfoldable pub sameRun : Run → Run → Bool
 sameRun a b =
     eqb (a .calendar) (b .calendar)
@@ -60,5 +62,6 @@ sameRun a b =
 unfoldable pub canBeKept : ℕ → ℕ → ℕ → Bool
 canBeKept c first years = (leb 1 years && leb years 14) && (isCalendar c && (isCovered (rulesFor c) first && isCovered (rulesFor c) (first + years - 1)))
 
+-- a run is what holds just what its calendar, first year and number of years fix
 unfoldable pub isRun : Run → Bool
 isRun run = canBeKept (run .calendar) (run .«first_year») (run .years) && sameRun run (runOf (run .calendar) (run .«first_year») (run .years))

@@ -32,9 +32,11 @@ dropOf run = need (isRun run) 11 (need (ltb 1 (run .years)) 10 (given (runOf (ru
 abbrev pub holdsYear : Run → ℕ → Bool
 holdsYear run y = leb (run .«first_year») y && ltb y (run .«first_year» + run .years)
 
+-- the day of a date of the run's years ..
 abbrev pub dayInRun : Run → ℕ → ℕ → Bool → ℕ → Answer ℕ
 dayInRun run y m leap d = need (holdsYear run y) 2 (dayOf (run .calendar) y m leap d)
 
+-- .. if what is given is a run
 unfoldable pub runDayOf : Run → ℕ → ℕ → Bool → ℕ → Answer ℕ
 runDayOf run y m leap d = need (isRun run) 11 (dayInRun run y m leap d)
 
@@ -44,8 +46,10 @@ holdsDay run n =
     let r : Rules = rulesFor (run .calendar) in
     leb (dayNumber r (firstDay r (run .«first_year»))) n && ltb n (dayNumber r (firstDay r (run .«first_year» + run .years)))
 
+-- the date of one of the run's days ..
 abbrev pub dateInRun : Run → ℕ → Answer Date
 dateInRun run n = need (holdsDay run n) 5 (dateOf (run .calendar) n)
 
+-- .. if what is given is a run
 unfoldable pub runDateOf : Run → ℕ → Answer Date
 runDateOf run n = need (isRun run) 11 (dateInRun run n)

@@ -68,6 +68,7 @@ pub record OneDate (run : Run) (n : ℕ) : Type 0 where
 -- "the consecutive years which those calls leave, in at most 174 months, and each day in it has exactly one date"
 pub record Demanded (c : ℕ) (y : Years) (run : Run) : Type 0 where
   pub content : run ≡ runOf c (y .first) (y .number)
+  -- so that no call answers it with 11
   pub no-11 : isRun run ≡ true
   pub at-least-1 : 1 ≤ y .number
   pub at-most-14 : y .number ≤ 14

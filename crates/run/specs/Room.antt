@@ -13,7 +13,7 @@ use Rattle.run.specs.Calls.{holdsYear}
 
 -- ---- what is asked
 
--- the run was examined, and has a year more than one
+-- the run was examined, and has more than one year
 pub record Droppable (run : Run) : Type 0 where
   pub kept : Kept run
   pub more : 1 < run .years

@@ -153,7 +153,7 @@ pub fn run_date_of(run: Run, day: u64) -> DateAnswer
     date_in_run(run, day)
 }
 
-// The first place of those used whose month's last date is that of a name, but for the day; as many places as are used, if there is none.
+// The first used place whose month has a name, told as a date's number without the day; as many places as are used, if there is none.
 fn place_with_name(last_dates: &[u32; 174], count: usize, name: u32) -> usize
     requires { ⌜ count ≤ 174 ⌝ }
     ensures { λ r. ⌜ FirstNamed (now («last_dates» .entry)) count name r ⌝ }
