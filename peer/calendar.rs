@@ -1,5 +1,6 @@
 //! The two calendars behind one set of questions.
 
+use crate::refusal::Refusal;
 use crate::{genka, senmyo};
 use std::ops::RangeInclusive;
 
@@ -20,6 +21,13 @@ impl Calendar {
         match self {
             Calendar::Senmyo => senmyo::YEARS,
             Calendar::Genka => genka::YEARS,
+        }
+    }
+
+    pub fn days_before_day_number_zero(self) -> i64 {
+        match self {
+            Calendar::Senmyo => senmyo::DAYS_BEFORE_DAY_NUMBER_ZERO,
+            Calendar::Genka => genka::DAYS_BEFORE_DAY_NUMBER_ZERO,
         }
     }
 
@@ -60,8 +68,10 @@ impl Calendar {
     }
 }
 
-pub fn numbered(number: i64) -> Option<Calendar> {
-    ALL.into_iter().find(|calendar| calendar.number() == number)
+pub fn numbered(number: i64) -> Result<Calendar, Refusal> {
+    ALL.into_iter()
+        .find(|calendar| calendar.number() == number)
+        .ok_or(Refusal::NoSuchCalendar)
 }
 
 /// The day's place in the sixty-day cycle, jiazi being 0.

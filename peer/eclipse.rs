@@ -1,8 +1,11 @@
 //! Senmyo's full moons and their eclipses.
 
+use crate::calendar::{self, Calendar};
+use crate::months::{self, signed};
+use crate::refusal::Refusal;
 use crate::rounding::nearest;
+use crate::senmyo;
 use crate::units::{Byo, Fen, BYO_IN_A_FEN};
-use crate::{moon, senmyo, sun};
 
 const HALF_A_FEN: Byo = Byo(BYO_IN_A_FEN / 2);
 const NEW_TO_FULL_MOON: Byo = Byo(Fen(124_028).in_byo().0 + HALF_A_FEN.0);
@@ -10,7 +13,7 @@ const NEW_TO_FULL_MOON: Byo = Byo(Fen(124_028).in_byo().0 + HALF_A_FEN.0);
 /// The node's period ends in 6512 ten-thousandths of a fen, so a place in it
 /// is counted in these.
 #[derive(Clone, Copy)]
-struct TenThousandths(i64);
+pub struct TenThousandths(pub i64);
 
 const TEN_THOUSANDTHS_IN_A_FEN: i64 = 10_000;
 const TEN_THOUSANDTHS_IN_A_BYO: i64 = TEN_THOUSANDTHS_IN_A_FEN / BYO_IN_A_FEN;
@@ -77,9 +80,19 @@ impl Eclipse {
     }
 }
 
+pub fn asked(calendar: u64, year: u64, month: u64, leap: bool) -> Result<Eclipse, Refusal> {
+    if let Calendar::Genka = calendar::numbered(signed(calendar))? {
+        return Err(Refusal::EclipseOfGenka);
+    }
+    let year = months::asked_year(calendar, year)?;
+    let month = year.month(signed(month), leap)?;
+    Ok(of_month(month.new_moon))
+}
+
 pub fn of_month(new_moon: i64) -> Eclipse {
-    let (side, place_in_half) = side_and_place_in_half(node_place(mean_full_moon(new_moon)));
-    let distance = distance(place_in_half);
+    let mean = mean_full_moon(new_moon);
+    let (sun, moon) = senmyo::corrections(mean);
+    let (side, distance) = node_of(node_place(mean, sun, moon));
     Eclipse {
         full_moon: true_full_moon(new_moon),
         side,
@@ -88,26 +101,27 @@ pub fn of_month(new_moon: i64) -> Eclipse {
     }
 }
 
-fn mean_full_moon(new_moon: i64) -> Byo {
+pub fn mean_full_moon(new_moon: i64) -> Byo {
     Byo(senmyo::mean_new_moon(new_moon).in_byo().0 + NEW_TO_FULL_MOON.0)
 }
 
 /// The corrections are taken with the mean moment's half fen, dropped last.
 pub fn true_full_moon(new_moon: i64) -> Fen {
     let mean = mean_full_moon(new_moon);
-    let corrections = Fen(sun::correction(mean).0 + moon::correction(mean).0);
-    Byo(mean.0 + corrections.in_byo().0).whole_fen()
+    let (sun, moon) = senmyo::corrections(mean);
+    Byo(mean.0 + sun.in_byo().0 + moon.in_byo().0).whole_fen()
 }
 
-fn node_place(mean_moment: Byo) -> TenThousandths {
+pub fn node_place(mean_moment: Byo, sun: Fen, moon: Fen) -> TenThousandths {
     let mean_place = (mean_moment.0 * TEN_THOUSANDTHS_IN_A_BYO).rem_euclid(PERIOD.0);
-    let by_sun = sun::correction(mean_moment).0;
-    let by_moon = nearest(
-        moon::correction(mean_moment).0 * PLACE_MOVED,
-        MOON_CORRECTION,
-    );
-    let place = mean_place + (by_sun + by_moon) * TEN_THOUSANDTHS_IN_A_FEN;
+    let by_moon = nearest(moon.0 * PLACE_MOVED, MOON_CORRECTION);
+    let place = mean_place + (sun.0 + by_moon) * TEN_THOUSANDTHS_IN_A_FEN;
     TenThousandths(place.rem_euclid(PERIOD.0))
+}
+
+pub fn node_of(place: TenThousandths) -> (Side, Fen) {
+    let (side, place_in_half) = side_and_place_in_half(place);
+    (side, distance(place_in_half))
 }
 
 fn side_and_place_in_half(place: TenThousandths) -> (Side, TenThousandths) {

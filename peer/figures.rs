@@ -1,235 +1,500 @@
-//! The figures worked in the rules, and some known besides, such as the number
-//! of eclipses, each beside what the peer makes of it.
+//! The figures and edges of the rules but for the eight worked cases, as the
+//! program `figures` prints them: a line has what it is about, a colon, and the
+//! numbers.
 
-use crate::calendar::{self, cycle_number, Calendar};
-use crate::months::{self, Month, Year};
-use crate::units::Fen;
-use crate::{eclipse, moon, record, refusal, run, senmyo, sun};
-use std::collections::BTreeSet;
+use crate::calendar::{cycle_number, Calendar};
+use crate::dates::{self, Date};
+use crate::eclipse::{Size, TenThousandths};
+use crate::lines::{self, hexadecimal, line};
+use crate::months::{self, covered};
+use crate::refusal::{self, Refusal};
+use crate::rounding::{floor, nearest};
+use crate::run::{self, Run};
+use crate::units::{AnomalySeconds, Byo, Fen, BYO_IN_A_FEN};
+use crate::{answers, eclipse, genka, moon, record, senmyo, sun};
 
-const SUN_OF_1522: [i64; 12] = [
-    1136, 1483, 1484, 1154, 549, -281, -974, -1406, -1522, -1295, -733, 139,
+/// Every 25 fen of a year, and every 5 fen of the Moon's period.
+const MOMENTS_OF_SUN: i64 = 122_723;
+const FEN_BETWEEN_MOMENTS_OF_SUN: i64 = 25;
+const MOMENTS_OF_MOON: i64 = 46_292;
+const ANOMALY_SECONDS_BETWEEN_MOMENTS_OF_MOON: i64 = 500;
+
+const INPUTS: [&[u8]; 5] = [
+    b"1 1522\n",
+    b"000000001 000000821\n",
+    b"3 1522\n1 1522\n",
+    b"1 1522",
+    b"1 0000001522\n",
 ];
-const MOON_OF_1522: [i64; 12] = [
-    2835, 3206, 3013, 2278, 1018, -583, -1962, -2833, -3180, -2970, -2223, -973,
-];
-const RECORD_OF_1522: [u8; 25] = *b"\
-    \x01\x00\x01\x01\
-    \x02\x00\x02\x05\xF2\
-    \x03\x00\x04\x00\x22\xBE\x84\
-    \x04\x00\x01\x00\
-    \x05\x00\x02\x0D\x4A";
 
-pub struct Figure {
-    pub name: String,
-    pub worked: i64,
-    pub expected: i64,
+pub fn all() -> String {
+    [
+        edges(),
+        cycles(),
+        roundings(),
+        units(),
+        senmyo_means(),
+        genka_means(),
+        extents(),
+        rows(),
+        advance(),
+        errors(),
+        grades(),
+        nodes(),
+        record_of_1522(),
+        damage(),
+        runs(),
+        freed(),
+        refused_opening(),
+        look_ups(),
+        dates_refused(),
+        days_refused(),
+        eclipses_refused(),
+        program(),
+    ]
+    .concat()
 }
 
-impl Figure {
-    pub fn agrees(&self) -> bool {
-        self.worked == self.expected
+fn figure_line(about: &str, numbers: &[i64]) -> String {
+    format!("{about}: {}", line(numbers))
+}
+
+fn edges() -> String {
+    let refused = |calendar, year| refusal::number(months::year(calendar, year));
+    [
+        figure_line(
+            "Senmyo, first and last year, whole days of day 0",
+            &edges_of(Calendar::Senmyo),
+        ),
+        figure_line("Genka", &edges_of(Calendar::Genka)),
+        figure_line(
+            "Senmyo, 821, 822, 1684 and 1685",
+            &[821, 822, 1684, 1685].map(|year| refused(1, year)),
+        ),
+        figure_line(
+            "Genka, 444, 445, 697 and 698",
+            &[444, 445, 697, 698].map(|year| refused(2, year)),
+        ),
+    ]
+    .concat()
+}
+
+fn edges_of(calendar: Calendar) -> [i64; 3] {
+    let years = calendar.years();
+    [
+        *years.start(),
+        *years.end(),
+        calendar.days_before_day_number_zero(),
+    ]
+}
+
+fn cycles() -> String {
+    figure_line("cycle of days 0, 10 and 11", &[0, 10, 11].map(cycle_number))
+}
+
+fn roundings() -> String {
+    [
+        figure_line(
+            "3/2, 1/2, -1/2 and -3/2, rounded",
+            &[3, 1, -1, -3].map(|halves| nearest(halves, 2)),
+        ),
+        figure_line(
+            "3/2 and -3/2, floors",
+            &[3, -3].map(|halves| floor(halves, 2)),
+        ),
+    ]
+    .concat()
+}
+
+fn units() -> String {
+    let last_of_day = Fen(8399);
+    let first_of_next = Fen(8400);
+    [
+        figure_line(
+            "a fen in byo, 8 byo in anomaly seconds, 15 byo in fen",
+            &[
+                Fen(1).in_byo().0,
+                Byo(8).in_anomaly_seconds().0,
+                Byo(15).whole_fen().0,
+            ],
+        ),
+        figure_line(
+            "8399 and 8400 fen, days and fen of the day",
+            &[
+                last_of_day.whole_days(),
+                last_of_day.of_the_day().0,
+                first_of_next.whole_days(),
+                first_of_next.of_the_day().0,
+            ],
+        ),
+    ]
+    .concat()
+}
+
+fn senmyo_means() -> String {
+    let mid_terms = [1, 12].map(|mid_term| fen_and_byo(senmyo::mid_term(mid_term)));
+    let [full_moon_fen, full_moon_byo] = fen_and_byo(eclipse::mean_full_moon(0));
+    [
+        figure_line(
+            "Senmyo, mid-terms 1 and 12, in fen and byo",
+            &mid_terms.concat(),
+        ),
+        figure_line(
+            "mean new moon 1, mean full moon 0, in fen and byo",
+            &[senmyo::mean_new_moon(1).0, full_moon_fen, full_moon_byo],
+        ),
+        figure_line("Rain Water of 822", &[senmyo::rain_water(822)]),
+    ]
+    .concat()
+}
+
+fn fen_and_byo(moment: Byo) -> [i64; 2] {
+    [moment.whole_fen().0, moment.0 % BYO_IN_A_FEN]
+}
+
+fn genka_means() -> String {
+    [
+        figure_line(
+            "Genka, new moon 1 in parts, full moon 0 in half parts, day of new moon 752",
+            &[
+                genka::new_moon(1).0,
+                genka::full_moon(0).0,
+                genka::new_moon(752).whole_days(),
+            ],
+        ),
+        figure_line(
+            "day of mid-term 7296, Rain Water of 445",
+            &[genka::mid_term_whole_days(7296), genka::rain_water(445)],
+        ),
+    ]
+    .concat()
+}
+
+fn extents() -> String {
+    let of_sun = (0..MOMENTS_OF_SUN)
+        .map(|moment| Fen(moment * FEN_BETWEEN_MOMENTS_OF_SUN))
+        .map(|moment| sun::correction(moment.in_byo()));
+    let of_moon = (0..MOMENTS_OF_MOON)
+        .map(|moment| AnomalySeconds(moment * ANOMALY_SECONDS_BETWEEN_MOMENTS_OF_MOON))
+        .map(moon::correction);
+    [
+        figure_line(
+            "Sun, least, most, all that it adds and all that it takes off, \
+             every 25 fen of a year",
+            &extent(of_sun),
+        ),
+        figure_line(
+            "Moon, the same, every 5 fen of its period",
+            &extent(of_moon),
+        ),
+    ]
+    .concat()
+}
+
+/// The least and the most, none counting as 0, and the sums of what adds and of
+/// what takes off.
+fn extent(corrections: impl Iterator<Item = Fen>) -> [i64; 4] {
+    let [mut least, mut most, mut added, mut taken] = [0; 4];
+    for Fen(correction) in corrections {
+        least = least.min(correction);
+        most = most.max(correction);
+        added += correction.max(0);
+        taken += (-correction).max(0);
+    }
+    [least, most, added, taken]
+}
+
+/// The lower rows' starts are told half an anomaly second late, for they stand
+/// at no whole one.
+fn rows() -> String {
+    let correction = |seconds| moon::correction(AnomalySeconds(seconds)).0;
+    [
+        figure_line(
+            "Moon, upper row 7 at 0, 7465 and 8400 fen",
+            &[5_040_000, 5_786_500, 5_880_000].map(correction),
+        ),
+        figure_line(
+            "Moon, lower rows 11 to 14 at 0 fen",
+            &[19_972_910, 20_812_910, 21_652_910, 22_492_910].map(correction),
+        ),
+    ]
+    .concat()
+}
+
+fn advance() -> String {
+    figure_line(
+        "a new moon at fen 6299 and 6300 of day 0, its day",
+        &[6299, 6300].map(|fen| senmyo::advanced_day(Fen(fen))),
+    )
+}
+
+/// Dates that a copyist's errors would change.
+fn errors() -> String {
+    figure_line(
+        "dates of days 2063282, 2296308, 2025571 and, in Genka, 1883766",
+        &[
+            date_or_refusal(dates::date_of(1, 2_063_282)),
+            date_or_refusal(dates::date_of(1, 2_296_308)),
+            date_or_refusal(dates::date_of(1, 2_025_571)),
+            date_or_refusal(dates::date_of(2, 1_883_766)),
+        ]
+        .concat(),
+    )
+}
+
+/// Year, month, leap 0 or 1, and day; or a refusal's number alone.
+fn date_or_refusal(answer: Result<Date, Refusal>) -> Vec<i64> {
+    match answer {
+        Ok((year, month, leap, day)) => {
+            vec![year as i64, month as i64, i64::from(leap), day as i64]
+        }
+        Err(refusal) => vec![refusal.number()],
     }
 }
 
-fn figure(name: &str, worked: i64, expected: i64) -> Figure {
-    Figure {
-        name: name.to_string(),
-        worked,
-        expected,
+fn day_or_refusal(answer: Result<u64, Refusal>) -> i64 {
+    answer.map_or_else(Refusal::number, |day| day as i64)
+}
+
+fn grades() -> String {
+    [2147, 2148, 8978, 8979, 9736, 9737]
+        .map(grade_line)
+        .concat()
+}
+
+fn grade_line(distance: i64) -> String {
+    let about = format!("eclipse at {distance}");
+    match eclipse::size(Fen(distance)) {
+        Size::None => format!("{about}: none\n"),
+        Size::Total => format!("{about}: total\n"),
+        Size::Partial {
+            parts,
+            remainder,
+            strong,
+        } => figure_line(&about, &[parts, remainder.0, i64::from(strong)]),
     }
 }
 
-pub fn all() -> Vec<Figure> {
-    let mut figures = solstice_before_1522();
-    figures.extend(corrections_of_1522());
-    figures.extend(advances());
-    figures.extend(corrections_of_1413());
-    figures.extend(eclipse_of_1522());
-    figures.extend(edges_of_eclipses());
-    figures.extend(count_of_eclipses());
-    figures.extend(year_643());
-    figures.extend(edges_of_the_calendars());
-    figures.extend(record_of_1522());
-    figures.extend(count_of_records());
-    figures.extend(months_of_full_runs());
-    figures
-}
-
-fn solstice_before_1522() -> Vec<Figure> {
-    let solstice = senmyo::solstice_before(1522);
-    let cycle = cycle_number(senmyo::day_number(solstice.whole_days()));
-    let month_11 = covered(1, 1522).months[0].new_moon - 2;
-    let before = solstice.0 - senmyo::mean_new_moon(month_11).0;
-    vec![
-        figure("1522 solstice, fen", solstice.of_the_day().0, 90),
-        figure("1522 solstice, cycle", cycle, 0),
-        figure("1522 month 11, mean fen before it", before, 121_258),
-    ]
-}
-
-fn corrections_of_1522() -> Vec<Figure> {
-    let mut figures = Vec::new();
-    for (at, month) in covered(1, 1522).months.iter().enumerate() {
-        let name = |body| format!("1522 month {}, {body}", month.number);
-        figures.push(figure(&name("Sun"), sun_of(month), SUN_OF_1522[at]));
-        figures.push(figure(&name("Moon"), moon_of(month), MOON_OF_1522[at]));
-    }
-    figures
-}
-
-fn corrections_of_1413() -> Vec<Figure> {
-    let month = &covered(1, 1413).months[0];
-    vec![
-        figure("1413 month 1, Sun", sun_of(month), 1210),
-        figure("1413 month 1, Moon", moon_of(month), 84),
-    ]
-}
-
-fn advances() -> Vec<Figure> {
-    let year = covered(1, 1522);
-    let second = senmyo::true_new_moon(year.months[1].new_moon);
-    let fifth = senmyo::true_new_moon(year.months[4].new_moon);
-    let moves = |moment| i64::from(senmyo::moves_a_day(moment));
-    vec![
-        figure("1522 month 2, fen", second.of_the_day().0, 6092),
-        figure("1522 month 2 moves", moves(second), 0),
-        figure("1522 month 5, fen", fifth.of_the_day().0, 7941),
-        figure("1522 month 5 moves", moves(fifth), 1),
-        figure("fen 6299 moves", moves(Fen(6299)), 0),
-        figure("fen 6300 moves", moves(Fen(6300)), 1),
-    ]
-}
-
-fn eclipse_of_1522() -> Vec<Figure> {
-    let eclipse = eclipse::of_month(covered(1, 1522).months[1].new_moon);
-    let [kind, parts, remainder, strong] = eclipse.size.numbers();
-    let full_moon = eclipse.full_moon.of_the_day().0;
-    vec![
-        figure("1522 month 2, full moon's fen", full_moon, 6215),
-        figure("1522 month 2, side", eclipse.side.number(), 1),
-        figure("1522 month 2, distance", eclipse.distance.0, 2241),
-        figure("1522 month 2, kind", kind, 2),
-        figure("1522 month 2, parts", parts, 14),
-        figure("1522 month 2, remainder", remainder, 412),
-        figure("1522 month 2, strong", strong, 1),
-    ]
-}
-
-fn edges_of_eclipses() -> Vec<Figure> {
-    let numbers = |distance| eclipse::size(Fen(distance)).numbers();
-    let kind = |distance| numbers(distance)[0];
-    let parts = |distance| numbers(distance)[1];
-    let remainder = |distance| numbers(distance)[2];
-    let strong = |distance| numbers(distance)[3];
-    vec![
-        figure("distance 2147, kind", kind(2147), 1),
-        figure("distance 2147, parts", parts(2147), 15),
-        figure("distance 2147, remainder", remainder(2147), 0),
-        figure("distance 2148, kind", kind(2148), 2),
-        figure("distance 2148, parts", parts(2148), 14),
-        figure("distance 2148, strong", strong(2148), 1),
-        figure("distance 9736, kind", kind(9736), 2),
-        figure("distance 9736, parts", parts(9736), 0),
-        figure("distance 9736, strong", strong(9736), 0),
-        figure("distance 9737, kind", kind(9737), 0),
-        figure("distance 9737, parts", parts(9737), 0),
-        figure("distance 9737, remainder", remainder(9737), 0),
-    ]
-}
-
-fn count_of_eclipses() -> Vec<Figure> {
-    let years = months::covered_years(Calendar::Senmyo);
-    let months = years.iter().flat_map(|year| &year.months);
-    let count = months
-        .filter(|month| eclipse::of_month(month.new_moon).happens())
-        .count();
-    vec![figure("eclipsed full moons", count as i64, 1_819)]
-}
-
-fn year_643() -> Vec<Figure> {
-    let year = covered(2, 643);
-    let months = year.months.len() as i64;
-    let day = year.months[4].first_day + 15;
-    vec![
-        figure("643 first day", year.first_day(), 1_955_939),
-        figure("643 days", year.days(), 383),
-        figure("643 months", months, 13),
-        figure("643 leap", year.leap_number(), 7),
-        figure("643 month 5 day 16", day, 1_956_072),
-        figure("643 month 5 day 16, cycle", cycle_number(day), 1),
-    ]
-}
-
-fn edges_of_the_calendars() -> Vec<Figure> {
-    let number = |calendar, year| refusal::number(months::year(calendar, year));
-    let day_after = |year: Year| year.first_day() + year.days();
-    vec![
-        figure("821 refused", number(1, 821), 2),
-        figure("822 first day", covered(1, 822).first_day(), 2_021_320),
-        figure("1684 day after", day_after(covered(1, 1684)), 2_336_529),
-        figure("1685 refused", number(1, 1685), 2),
-        figure("444 refused", number(2, 444), 2),
-        figure("445 first day", covered(2, 445).first_day(), 1_883_618),
-        figure("697 day after", day_after(covered(2, 697)), 1_976_049),
-        figure("698 refused", number(2, 698), 2),
-    ]
-}
-
-fn record_of_1522() -> Vec<Figure> {
-    let mut bytes = RECORD_OF_1522.map(|byte| !byte);
-    let writing = refusal::number(record::write(1, 1522, &mut bytes));
-    let reading = refusal::number(record::read(&RECORD_OF_1522));
-    let mut figures = vec![
-        figure("record, bytes", record::length() as i64, 25),
-        figure("1522 record, writing refused", writing, 0),
-        figure("1522 record, reading refused", reading, 0),
+fn nodes() -> String {
+    let places = [
+        4_999,
+        5_000,
+        571_456_628,
+        1_142_908_256,
+        1_142_913_256,
+        1_142_913_257,
+        2_285_821_512,
     ];
-    for (place, expected) in RECORD_OF_1522.into_iter().enumerate() {
-        let name = format!("1522 record, byte {place}");
-        figures.push(figure(&name, bytes[place].into(), expected.into()));
+    let place = |mean, sun, moon| eclipse::node_place(Byo(mean), Fen(sun), Fen(moon)).0;
+    [
+        figure_line(
+            "side and distance of some places, about the nodes and a half",
+            &places.map(side_and_distance).concat(),
+        ),
+        figure_line(
+            "places at 1828662 byo, and at 0 with Sun 1 and -1, with Moon 3217, 3216 and -7",
+            &[
+                place(1_828_662, 0, 0),
+                place(0, 1, 0),
+                place(0, -1, 0),
+                place(0, 0, 3217),
+                place(0, 0, 3216),
+                place(0, 0, -7),
+            ],
+        ),
+    ]
+    .concat()
+}
+
+fn side_and_distance(place: i64) -> [i64; 2] {
+    let (side, distance) = eclipse::node_of(TenThousandths(place));
+    [side.number(), distance.0]
+}
+
+fn record_of_1522() -> String {
+    let mut bytes = [0; 25];
+    let writing = refusal::number(record::write(1, 1522, &mut bytes));
+    let reading = refusal::number(record::read(&bytes));
+    let bytes = hexadecimal(&bytes);
+    format!("record of 1522: {bytes} {writing} {reading}\n")
+}
+
+/// A buffer too short, and then the record of 1522 with one field after the
+/// other changed.
+fn damage() -> String {
+    let mut short = [0; 24];
+    let mut numbers = vec![
+        refusal::number(record::write(3, 0, &mut short)),
+        refusal::number(record::read(&short)),
+    ];
+    let mut bytes = record::of_year(&covered(1, 1522));
+    for (place, byte) in [(15, 133), (7, 9), (3, 3), (20, 6)] {
+        bytes[place] = byte;
+        numbers.push(refusal::number(record::read(&bytes)));
     }
-    figures
+    figure_line(
+        "24 bytes to write calendar 3 in and to read; \
+         another first day, then year, calendar and tag too",
+        &numbers,
+    )
 }
 
-fn count_of_records() -> Vec<Figure> {
-    let years = calendar::ALL.into_iter().flat_map(months::covered_years);
-    let records: BTreeSet<Vec<u8>> = years.map(|year| record::of_year(&year)).collect();
-    vec![figure("records", records.len() as i64, 863 + 253)]
+fn runs() -> String {
+    let full = run_from(1523, 13);
+    let extending = |run: &Run| run::extend(run).0;
+    [
+        figure_line(
+            "1523 to 1536, years and months",
+            &[full.years.into(), full.count.into()],
+        ),
+        figure_line(
+            "extending it, 1671 to 1684, 1684, and a run of zeros",
+            &[
+                extending(&full),
+                extending(&run_from(1671, 13)),
+                extending(&run_from(1684, 0)),
+                extending(&run_from(0, 0)),
+            ],
+        ),
+        figure_line(
+            "dropping from it and from 1522, what is left",
+            &[dropping(&full), dropping(&run_from(1522, 0))].concat(),
+        ),
+    ]
+    .concat()
 }
 
-fn months_of_full_runs() -> Vec<Figure> {
-    let [senmyo, genka] = calendar::ALL.map(months_of_full_runs_in);
-    let most = senmyo.iter().chain(&genka).max().copied().unwrap_or(0);
-    let with_most = |counts: Vec<i64>| {
-        let with_most = counts.into_iter().filter(|&count| count == most);
-        with_most.count() as i64
-    };
-    vec![
-        figure("fourteen years, most months", most, 174),
-        figure("Senmyo, runs with most months", with_most(senmyo), 133),
-        figure("Genka, runs with most months", with_most(genka), 39),
+/// The first days in three places of what a drop from a full run leaves.
+fn freed() -> String {
+    let (_, left) = run::drop_oldest(&run_from(1523, 13));
+    let first_days = [160, 161, 173].map(|place: usize| left.places[place].first_day.into());
+    figure_line(
+        "then the first days in places 160, 161 and 173",
+        &first_days,
+    )
+}
+
+fn refused_opening() -> String {
+    let (refusal, zeros) = run::open(1, 1685);
+    figure_line(
+        "opening at 1685",
+        &[
+            refusal,
+            zeros.calendar.into(),
+            zeros.first_year.into(),
+            zeros.years.into(),
+            zeros.count.into(),
+        ],
+    )
+}
+
+/// A run from a year on, with so many years more.
+fn run_from(year: u64, more: usize) -> Run {
+    let (_, opened) = run::open(1, year);
+    (0..more).fold(opened, |run, _| run::extend(&run).1)
+}
+
+fn dropping(run: &Run) -> [i64; 4] {
+    let (refusal, left) = run::drop_oldest(run);
+    [
+        refusal,
+        left.first_year.into(),
+        left.years.into(),
+        left.count.into(),
     ]
 }
 
-fn months_of_full_runs_in(calendar: Calendar) -> Vec<i64> {
-    let years = months::covered_years(calendar);
-    let runs = years.windows(run::MOST_YEARS.into());
-    let months = |run: &[Year]| run.iter().map(|year| year.months.len() as i64).sum();
-    runs.map(months).collect()
+fn look_ups() -> String {
+    let run = run_from(1522, 1);
+    let days = [
+        (1524, 13, true, 0),
+        (1523, 13, true, 0),
+        (1523, 3, true, 0),
+        (1523, 3, true, 1),
+    ]
+    .map(|date| day_or_refusal(run::day_of(&run, date)));
+    let dates =
+        [2_277_733, 2_276_995, 2_277_734].map(|day| date_or_refusal(run::date_of(&run, day)));
+    [
+        figure_line(
+            "in 1522 and 1523, 1524 month 13 day 0, then 1523, leap month 3, day 1",
+            &days,
+        ),
+        figure_line(
+            "its last day, the day before its first, the day after its last",
+            &dates.concat(),
+        ),
+    ]
+    .concat()
 }
 
-fn covered(calendar: i64, year: i64) -> Year {
-    let Ok(year) = months::year(calendar, year) else {
-        unreachable!("only covered years are asked for");
-    };
-    year
+fn dates_refused() -> String {
+    let number = |calendar, date| day_or_refusal(dates::day_of(calendar, date));
+    [
+        figure_line(
+            "calendar 3, year 0, month 0, day 0, then with the first of them put right, and so on",
+            &[
+                number(3, (0, 0, false, 0)),
+                number(1, (0, 0, false, 0)),
+                number(1, (1522, 0, false, 0)),
+                number(1, (1522, 1, false, 0)),
+                number(1, (1522, 1, false, 29)),
+            ],
+        ),
+        figure_line(
+            "1522 month 1 day 30, month 13, leap month 1",
+            &[
+                number(1, (1522, 1, false, 30)),
+                number(1, (1522, 13, false, 1)),
+                number(1, (1522, 1, true, 1)),
+            ],
+        ),
+    ]
+    .concat()
 }
 
-fn sun_of(month: &Month) -> i64 {
-    sun::correction(senmyo::mean_new_moon(month.new_moon).in_byo()).0
+fn days_refused() -> String {
+    let numbers = [
+        (3, 0),
+        (1, 2_021_319),
+        (1, 2_021_320),
+        (1, 2_336_528),
+        (1, 2_336_529),
+        (2, 1_883_617),
+        (2, 1_883_618),
+        (2, 1_976_048),
+        (2, 1_976_049),
+    ]
+    .map(|(calendar, day)| date_or_refusal(dates::date_of(calendar, day)));
+    figure_line(
+        "day 0 in calendar 3, the first covered days and the last, and those beside them",
+        &numbers.concat(),
+    )
 }
 
-fn moon_of(month: &Month) -> i64 {
-    moon::correction(senmyo::mean_new_moon(month.new_moon).in_byo()).0
+fn eclipses_refused() -> String {
+    let numbers = [
+        (3, 0, 0),
+        (2, 0, 0),
+        (1, 821, 0),
+        (1, 1522, 13),
+        (1, 1522, 2),
+    ]
+    .map(|(calendar, year, month)| refusal::number(eclipse::asked(calendar, year, month, false)));
+    figure_line(
+        "eclipses, calendar 3, Genka, 821, 1522 month 13 and month 2",
+        &numbers,
+    )
+}
+
+fn program() -> String {
+    let of_1522 = covered(1, 1522);
+    [
+        INPUTS.map(answers::answer).concat(),
+        lines::eclipse_lines(&covered(1, 824)),
+        lines::eclipse_lines(&of_1522),
+        lines::instant_lines(&of_1522),
+        lines::instant_lines(&covered(2, 643)),
+    ]
+    .concat()
 }

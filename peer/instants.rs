@@ -18,7 +18,7 @@ pub fn moons(calendar: Calendar, new_moon: i64) -> Moons {
             full: senmyo_date(eclipse::true_full_moon(new_moon)),
         },
         Calendar::Genka => Moons {
-            new: genka_date(genka::new_moon(new_moon)),
+            new: genka_date(genka::new_moon(new_moon).in_half_parts()),
             full: genka_date(genka::full_moon(new_moon)),
         },
     }

@@ -2,11 +2,11 @@
 
 use crate::calendar::cycle_number;
 use crate::eclipse::{self, Eclipse};
-use crate::figures::Figure;
 use crate::instants;
 use crate::months::{Month, Year};
 use crate::refusal::Refusal;
 use crate::senmyo;
+use crate::worked::Figure;
 
 pub fn year_table(year: &Year) -> String {
     let head = [

@@ -7,6 +7,7 @@
 
 mod answers;
 mod calendar;
+mod dates;
 mod eclipse;
 mod figures;
 mod genka;
@@ -23,6 +24,7 @@ mod runs;
 mod senmyo;
 mod sun;
 mod units;
+mod worked;
 
 use calendar::Calendar;
 use std::env;
@@ -43,6 +45,7 @@ fn main() -> ExitCode {
         ["records"] => print_records(),
         ["runs"] => print_runs(),
         ["figures"] => print_figures(),
+        ["worked"] => print_worked(),
         _ => usage(),
     }
 }
@@ -99,11 +102,16 @@ fn print_runs() -> ExitCode {
 }
 
 fn print_figures() -> ExitCode {
-    let figures = figures::all();
+    print!("{}", figures::all());
+    ExitCode::SUCCESS
+}
+
+fn print_worked() -> ExitCode {
+    let figures = worked::all();
     for figure in &figures {
         print!("{}", lines::figure_line(figure));
     }
-    if figures.iter().all(figures::Figure::agrees) {
+    if figures.iter().all(worked::Figure::agrees) {
         ExitCode::SUCCESS
     } else {
         ExitCode::FAILURE
@@ -113,7 +121,7 @@ fn print_figures() -> ExitCode {
 fn usage() -> ExitCode {
     eprintln!(
         "usage: peer year CALENDAR YEAR | peer COMMAND\n\
-         COMMAND: years, answers, eclipses, instants, records, runs or figures"
+         COMMAND: years, answers, eclipses, instants, records, runs, figures or worked"
     );
     ExitCode::from(2)
 }

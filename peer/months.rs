@@ -3,6 +3,7 @@
 
 use crate::calendar::{self, Calendar};
 use crate::refusal::Refusal;
+use std::ops::Range;
 
 pub struct Month {
     pub new_moon: i64,
@@ -18,6 +19,12 @@ pub struct Year {
     pub months: Vec<Month>,
 }
 
+impl Month {
+    pub fn days(&self) -> Range<i64> {
+        self.first_day..self.first_day + self.length
+    }
+}
+
 impl Year {
     pub fn first_day(&self) -> i64 {
         self.months[0].first_day
@@ -30,6 +37,13 @@ impl Year {
     pub fn leap_number(&self) -> i64 {
         let leap = self.months.iter().find(|month| month.leap);
         leap.map_or(0, |month| month.number)
+    }
+
+    pub fn month(&self, number: i64, leap: bool) -> Result<&Month, Refusal> {
+        self.months
+            .iter()
+            .find(|month| month.number == number && month.leap == leap)
+            .ok_or(Refusal::NoSuchMonth)
     }
 }
 
@@ -47,16 +61,29 @@ pub fn asked_year(calendar_number: u64, year_number: u64) -> Result<Year, Refusa
     year(signed(calendar_number), signed(year_number))
 }
 
-/// A number too large stands for no calendar and no year, as the largest does.
-fn signed(number: u64) -> i64 {
+/// A number too large stands for no calendar, year, month or day, as the
+/// largest does.
+pub fn signed(number: u64) -> i64 {
     i64::try_from(number).unwrap_or(i64::MAX)
 }
 
 pub fn year(calendar_number: i64, year_number: i64) -> Result<Year, Refusal> {
-    let calendar = calendar::numbered(calendar_number).ok_or(Refusal::NoSuchCalendar)?;
-    covered_years(calendar)
+    let calendar = calendar::numbered(calendar_number)?;
+    year_among(covered_years(calendar), year_number)
+}
+
+/// A year that is known to be covered.
+pub fn covered(calendar_number: i64, year_number: i64) -> Year {
+    let Ok(year) = year(calendar_number, year_number) else {
+        unreachable!("only covered years are asked for");
+    };
+    year
+}
+
+pub fn year_among(years: Vec<Year>, number: i64) -> Result<Year, Refusal> {
+    years
         .into_iter()
-        .find(|year| year.number == year_number)
+        .find(|year| year.number == number)
         .ok_or(Refusal::YearNotCovered)
 }
 

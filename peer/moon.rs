@@ -1,7 +1,7 @@
 //! The Moon's correction of a Senmyo moon.
 
 use crate::rounding::nearest;
-use crate::units::{Byo, Fen, BYO_IN_A_FEN, FEN_IN_A_DAY};
+use crate::units::{AnomalySeconds, Fen, ANOMALY_SECONDS_IN_A_FEN, FEN_IN_A_DAY};
 
 /// Half the anomalistic period ends in 95 thousandths of a fen, so the place
 /// in the period is counted in thousandths.
@@ -57,8 +57,9 @@ struct Fraction {
     denominator: i64,
 }
 
-pub fn correction(mean_moment: Byo) -> Fen {
-    let place = (mean_moment.0 * (THOUSANDTHS / BYO_IN_A_FEN)).rem_euclid(PERIOD);
+pub fn correction(mean_moment: AnomalySeconds) -> Fen {
+    let thousandths = mean_moment.0 * (THOUSANDTHS / ANOMALY_SECONDS_IN_A_FEN);
+    let place = thousandths.rem_euclid(PERIOD);
     if place < HALF_PERIOD {
         let size = size_in_half(&UPPER, place);
         Fen(nearest(size.numerator, size.denominator))

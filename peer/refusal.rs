@@ -13,6 +13,7 @@ pub enum Refusal {
     RunOfOneYear = 10,
     NotARun = 11,
     NotALine = 12,
+    EclipseOfGenka = 13,
 }
 
 impl Refusal {

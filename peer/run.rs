@@ -3,9 +3,9 @@
 //! fix the rest, so every call works the run anew from these three and compares.
 
 use crate::calendar;
+use crate::dates::{self, Date};
 use crate::months::{self, Year};
 use crate::refusal::Refusal;
-use std::ops::Range;
 use std::slice;
 
 pub const MOST_YEARS: u8 = 14;
@@ -49,16 +49,6 @@ pub const ZEROS: Run = Run {
 /// A refusal's number, or 0 if there is none, and the run as it is afterwards.
 pub type Answer = (i64, Run);
 
-/// Year, month, whether leap, and day.
-pub type Date = (u64, u64, bool, u64);
-
-impl Place {
-    fn days(&self) -> Range<u64> {
-        let first_day = u64::from(self.first_day);
-        first_day..first_day + u64::from(self.length)
-    }
-}
-
 pub fn open(calendar: u64, year: u64) -> Answer {
     let year = months::asked_year(calendar, year);
     answer(year.map(|year| of_years(slice::from_ref(&year))), &ZEROS)
@@ -80,74 +70,49 @@ fn answer(changed: Result<Run, Refusal>, unchanged: &Run) -> Answer {
 }
 
 fn extended(run: &Run) -> Result<Run, Refusal> {
-    examine(run)?;
+    years_held(run)?;
     let next_year = run.first_year + u16::from(run.years);
     months::year(run.calendar.into(), next_year.into())?;
     of_head(run.calendar, run.first_year, run.years + 1).ok_or(Refusal::RunIsFull)
 }
 
 fn shortened(run: &Run) -> Result<Run, Refusal> {
-    examine(run)?;
+    years_held(run)?;
     of_head(run.calendar, run.first_year + 1, run.years - 1).ok_or(Refusal::RunOfOneYear)
 }
 
-pub fn day_of(run: &Run, year: u64, month: u64, leap: bool, day: u64) -> Result<u64, Refusal> {
-    let month = asked_month(months_held(run)?, year, month, leap)?;
-    if (1..=u64::from(month.length)).contains(&day) {
-        Ok(month.days().start + day - 1)
-    } else {
-        Err(Refusal::NoSuchDay)
-    }
-}
-
-fn asked_month(held: &[Place], year: u64, number: u64, leap: bool) -> Result<&Place, Refusal> {
-    let mut of_year = held
-        .iter()
-        .filter(|month| u64::from(month.year) == year)
-        .peekable();
-    of_year.peek().ok_or(Refusal::YearNotCovered)?;
-    of_year
-        .find(|month| u64::from(month.number) == number && month.leap == leap)
-        .ok_or(Refusal::NoSuchMonth)
+pub fn day_of(run: &Run, date: Date) -> Result<u64, Refusal> {
+    dates::day_among(years_held(run)?, date)
 }
 
 pub fn date_of(run: &Run, day: u64) -> Result<Date, Refusal> {
-    let month = months_held(run)?
-        .iter()
-        .find(|month| month.days().contains(&day))
-        .ok_or(Refusal::DayNotCovered)?;
-    let day_of_month = day - month.days().start + 1;
-    Ok((
-        month.year.into(),
-        month.number.into(),
-        month.leap,
-        day_of_month,
-    ))
+    dates::date_among(years_held(run)?, day)
 }
 
-fn months_held(run: &Run) -> Result<&[Place], Refusal> {
-    examine(run)?;
-    Ok(&run.places[..usize::from(run.count)])
+/// The years of a run that is as the rules give it.
+fn years_held(run: &Run) -> Result<Vec<Year>, Refusal> {
+    years_of_head(run.calendar, run.first_year, run.years)
+        .filter(|years| *run == of_years(years))
+        .ok_or(Refusal::NotARun)
 }
 
-fn examine(run: &Run) -> Result<(), Refusal> {
-    match of_head(run.calendar, run.first_year, run.years) {
-        Some(by_the_rules) if *run == by_the_rules => Ok(()),
-        _ => Err(Refusal::NotARun),
-    }
-}
-
-/// The run that these three fix; none if the years are too few or too many, or
-/// not all covered.
 fn of_head(calendar: u8, first_year: u16, years: u8) -> Option<Run> {
-    let calendar = calendar::numbered(calendar.into())?;
+    years_of_head(calendar, first_year, years).map(|years| of_years(&years))
+}
+
+/// The years of the run that these three fix; none if the years are too few or
+/// too many, or not all covered.
+fn years_of_head(calendar: u8, first_year: u16, years: u8) -> Option<Vec<Year>> {
+    let calendar = calendar::numbered(calendar.into()).ok()?;
     if !(1..=MOST_YEARS).contains(&years) {
         return None;
     }
-    let covered = months::covered_years(calendar);
-    let mut runs = covered.windows(years.into());
-    let held = runs.find(|held| held[0].number == first_year.into());
-    held.map(of_years)
+    let held: Vec<Year> = months::covered_years(calendar)
+        .into_iter()
+        .skip_while(|year| year.number != first_year.into())
+        .take(years.into())
+        .collect();
+    (held.len() == years.into()).then_some(held)
 }
 
 fn of_years(years: &[Year]) -> Run {

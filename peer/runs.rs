@@ -3,8 +3,9 @@
 //! over all places of the first days and of the last dates, each date as one
 //! number; of a full run, every place.
 
+use crate::dates::Date;
 use crate::refusal;
-use crate::run::{self, Answer, Date, Place, Run};
+use crate::run::{self, Answer, Place, Run};
 
 const OPENINGS: [(u64, u64); 17] = [
     (1, 1522),
@@ -236,8 +237,8 @@ fn date_line(run: &Run, day: u64) -> String {
     format!("{day} {}\n", date_words(run, day))
 }
 
-fn day_words(run: &Run, (year, month, leap, day): Date) -> String {
-    let answer = run::day_of(run, year, month, leap, day);
+fn day_words(run: &Run, date: Date) -> String {
+    let answer = run::day_of(run, date);
     format!("{} {}", refusal::number(answer), answer.unwrap_or(0))
 }
 

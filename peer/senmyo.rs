@@ -3,15 +3,16 @@
 //! (mid-term 0) and a mean new moon (new moon 0) fall together.
 
 use crate::moon;
+use crate::rounding::floor;
 use crate::sun;
 use crate::units::{Byo, Fen};
 use std::ops::RangeInclusive;
 
 pub const YEARS: RangeInclusive<i64> = 822..=1684;
 
-const DAYS_BEFORE_DAY_NUMBER_ZERO: i64 = 2_580_308_749;
+pub const DAYS_BEFORE_DAY_NUMBER_ZERO: i64 = 2_580_308_749;
 const YEARS_BEFORE_822: i64 = 7_070_138;
-const YEAR: Fen = Fen(3_068_055);
+pub const YEAR: Fen = Fen(3_068_055);
 const MONTH: Fen = Fen(248_057);
 const MID_TERM_SPACING: Byo = Byo(YEAR.in_byo().0 / 12);
 const ADVANCE_FROM: Fen = Fen(6_300);
@@ -33,8 +34,12 @@ pub fn mid_term_number(mid_term: i64) -> i64 {
     (mid_term + 10).rem_euclid(12) + 1
 }
 
+pub fn mid_term(mid_term: i64) -> Byo {
+    Byo(MID_TERM_SPACING.0 * mid_term)
+}
+
 pub fn mid_term_day(mid_term: i64) -> i64 {
-    day_number(Byo(MID_TERM_SPACING.0 * mid_term).whole_days())
+    day_number(self::mid_term(mid_term).whole_days())
 }
 
 pub fn mean_new_moon(new_moon: i64) -> Fen {
@@ -43,9 +48,15 @@ pub fn mean_new_moon(new_moon: i64) -> Fen {
 
 pub fn true_new_moon(new_moon: i64) -> Fen {
     let mean = mean_new_moon(new_moon);
-    let sun = sun::correction(mean.in_byo());
-    let moon = moon::correction(mean.in_byo());
+    let (sun, moon) = corrections(mean.in_byo());
     Fen(mean.0 + sun.0 + moon.0)
+}
+
+/// The Sun's correction and the Moon's.
+pub fn corrections(mean_moment: Byo) -> (Fen, Fen) {
+    let sun = sun::correction(mean_moment);
+    let moon = moon::correction(mean_moment.in_anomaly_seconds());
+    (sun, moon)
 }
 
 pub fn moves_a_day(true_new_moon: Fen) -> bool {
@@ -53,14 +64,18 @@ pub fn moves_a_day(true_new_moon: Fen) -> bool {
 }
 
 pub fn first_day(new_moon: i64) -> i64 {
-    let moment = true_new_moon(new_moon);
-    day_number(moment.whole_days()) + i64::from(moves_a_day(moment))
+    day_number(advanced_day(true_new_moon(new_moon)))
+}
+
+/// The day that a new moon counts to, in whole days.
+pub fn advanced_day(true_new_moon: Fen) -> i64 {
+    true_new_moon.whole_days() + i64::from(moves_a_day(true_new_moon))
 }
 
 /// A month back from the mean new moon, the corrections and the advance (under
 /// two days together) leave the month's first day before the mid-term's.
 pub fn new_moon_before(mid_term: i64) -> i64 {
-    (MID_TERM_SPACING.0 * mid_term).div_euclid(MONTH.in_byo().0) - 1
+    floor(self::mid_term(mid_term).0, MONTH.in_byo().0) - 1
 }
 
 pub fn day_number(whole_days: i64) -> i64 {

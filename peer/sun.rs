@@ -1,9 +1,10 @@
 //! The Sun's correction of a Senmyo moon.
 
 use crate::rounding::nearest;
+use crate::senmyo;
 use crate::units::{Byo, Fen, BYO_IN_A_DAY, FEN_IN_A_DAY};
 
-const YEAR: Byo = Fen(3_068_055).in_byo();
+const YEAR: Byo = senmyo::YEAR.in_byo();
 const PLACES: i64 = 10_000;
 
 /// A true term: its span, and its numbers in ten-thousandths of a fen.

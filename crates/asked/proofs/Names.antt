@@ -40,7 +40,7 @@ module _ (r : Rules) (s : Steady r) (y : ℕ) where
     where
       by-place : (b : Bool) → ltb i (t .leapNumber) ≡ b → Named r y (i + 1) false (monthWith r (r .rainWater y + i))
       by-place true e = by-term i (firstMonth r y + i) (t .before i (ltb-true _ _ e)) (record { from = omega arith; to = omega (arith, t .count, h) })
-      by-place false e = by-term i (firstMonth r y + i + 1) (t .behind i (ltb-false _ _ e) h) (record { from = omega arith; to = omega (arith, t .count, h) })
+      by-place false e = by-term i (firstMonth r y + i + 1) (t .after i (ltb-false _ _ e) h) (record { from = omega arith; to = omega (arith, t .count, h) })
 
   module _ (months : TwelveOrThirteen r y) where
     regular : (m : ℕ) → 1 ≤ m → m ≤ 12 → Named r y m false (regularMonth r y m)
@@ -113,7 +113,7 @@ module _ (r : Rules) (s : Steady r) (y : ℕ) where
           let i = k - firstMonth r y - 1 in
           let there : firstMonth r y + (k - firstMonth r y - 1) + 1 ≡ k = omega (arith, h .from, behind) in
           let in-twelve : k - firstMonth r y - 1 < 12 = omega (arith, h .from, h .to, t .count) in
-          regular-back i k in-twelve (rw there at (t .behind i (omega (arith, behind)) in-twelve))
+          regular-back i k in-twelve (rw there at (t .after i (omega (arith, behind)) in-twelve))
       by-place false false e d =
           let there : firstMonth r y + t .leapNumber ≡ k = omega (arith, h .from, ltb-false (k - firstMonth r y) (t .leapNumber) e, ltb-false (t .leapNumber) (k - firstMonth r y) d) in
           rw there at (leap-back t)

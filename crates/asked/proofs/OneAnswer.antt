@@ -11,6 +11,14 @@ use Rattle.asked.specs.declared.YearAsked.the-variants as year-asked
 use Rattle.asked.specs.declared.MonthAsked.{MonthAsked}
 use Rattle.asked.specs.declared.MonthAsked.the-variants as month-asked
 use Rattle.asked.specs.Answers.{calendarMeans, yearMeans, monthMeans}
+use Rattle.numbers.specs.OneResult.{OneResult}
+use Rattle.numbers.proofs.OneResult.{one}
+use Rattle.asked.proofs.asked_calendar.Reads as asked-calendar
+use Rattle.asked.proofs.calendar_refusal.Reads as calendar-refusal
+use Rattle.asked.proofs.asked_year.Reads as asked-year
+use Rattle.asked.proofs.year_refusal.Reads as year-refusal
+use Rattle.asked.proofs.asked_month.Reads as asked-month
+use Rattle.asked.proofs.month_refusal.Reads as month-refusal
 
 pub one-calendar : (x y : CalendarAsked) → calendarMeans x ≡ calendarMeans y → x ≡ y
 one-calendar (calendar-asked.Known a) (calendar-asked.Known b) h = cc
@@ -29,3 +37,23 @@ one-month (month-asked.Found a s) (month-asked.Found b t) h = ap (λ (p : Calend
 one-month (month-asked.Found a s) (month-asked.Refused n) h = cc
 one-month (month-asked.Refused n) (month-asked.Found b t) h = cc
 one-month (month-asked.Refused n) (month-asked.Refused m) h = cc
+
+-- ---- what each public function promises leaves one answer
+
+pub one-asked-calendar : OneResult asked-calendar.Learnt
+one-asked-calendar _ _ x y _ _ p q = one-calendar x y (one p q)
+
+pub one-calendar-refusal : OneResult calendar-refusal.Learnt
+one-calendar-refusal _ _ _ _ _ _ = one
+
+pub one-asked-year : OneResult asked-year.Learnt
+one-asked-year _ _ x y _ _ p q = one-year x y (one p q)
+
+pub one-year-refusal : OneResult year-refusal.Learnt
+one-year-refusal _ _ _ _ _ _ = one
+
+pub one-asked-month : OneResult asked-month.Learnt
+one-asked-month _ _ x y _ _ p q = one-month x y (one p q)
+
+pub one-month-refusal : OneResult month-refusal.Learnt
+one-month-refusal _ _ _ _ _ _ = one

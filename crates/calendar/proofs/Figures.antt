@@ -127,7 +127,7 @@ months-643 =
 -- ---- dates and days
 
 -- 643 month 5 day 16 is 1956072, cycle 1
-day-643 : dayOf 2 643 5 false 16 ≡ given 1956072
+pub day-643 : dayOf 2 643 5 false 16 ≡ given 1956072
 unfolding dayOf rulesOf
 day-643 = rw (month-with genka genka-steady 73014 (genka .rainWater 643 + 4) tt)
 

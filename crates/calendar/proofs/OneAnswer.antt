@@ -7,6 +7,12 @@ use Rattle.calendar.specs.declared.DayAnswer.the-variants as day-answer
 use Rattle.calendar.specs.declared.DateAnswer.{DateAnswer}
 use Rattle.calendar.specs.declared.DateAnswer.the-variants as date-answer
 use Rattle.calendar.specs.Answers.{dayMeans, dateMeans, yearAnswer}
+use Rattle.numbers.specs.OneResult.{OneResult}
+use Rattle.numbers.proofs.OneResult.{one}
+use Rattle.calendar.proofs.day_of.Reads as day-of
+use Rattle.calendar.proofs.date_of.Reads as date-of
+use Rattle.calendar.proofs.cycle_of.Reads as cycle-of
+use Rattle.calendar.proofs.year_of.Reads as year-of
 
 pub one-day : (x y : DayAnswer) → dayMeans x ≡ dayMeans y → x ≡ y
 one-day (day-answer.Day a) (day-answer.Day b) h = cc
@@ -24,3 +30,17 @@ one-date (date-answer.Refused n) (date-answer.Refused m) h = cc
 pub year-number : (a : Answer Year) → yearAnswer a .refusal ≡ refusalIn a
 year-number (given y) = refl
 year-number (refused n) = refl
+
+-- ---- what each public function promises leaves one answer
+
+pub one-day-of : OneResult day-of.Learnt
+one-day-of _ _ x y _ _ p q = one-day x y (one p q)
+
+pub one-date-of : OneResult date-of.Learnt
+one-date-of _ _ x y _ _ p q = one-date x y (one p q)
+
+pub one-cycle-of : OneResult cycle-of.Learnt
+one-cycle-of _ _ _ _ _ _ = one
+
+pub one-year-of : OneResult year-of.Learnt
+one-year-of _ _ _ _ _ _ = one

@@ -107,7 +107,7 @@ leap-is r y t =
     behind : (t : Thirteen r y) (i : ℕ) → t .leapNumber < i → i < 13 → isLeap r (firstMonth r y + i) ≡ false
     behind t i low high =
         let on : firstMonth r y + (i - 1) + 1 ≡ firstMonth r y + i = omega (arith, low) in
-        rw on at (t .behind (i - 1) (omega (arith, low)) (omega (arith, low, high)) .not-leap)
+        rw on at (t .after (i - 1) (omega (arith, low)) (omega (arith, low, high)) .not-leap)
 
 -- so that it is at most 12
 pub leap-small : (c : Calendar) (y : ℕ) → CoveredYear (rulesOf c) y → yearIn (rulesOf c) y .leap ≤ 12

@@ -1,4 +1,4 @@
--- The definitions at 01's edges and worked figure.
+-- The definitions at 01's edges.
 use mathlib.Core.Path.{_≡_, refl}
 use mathlib.Core.Bool.{true, false}
 use Rattle.units.specs.Units.{fen}
@@ -21,11 +21,6 @@ partial-at-9736 = refl
 none-at-9737 : gradeOf (fen 9737) ≡ record { kind = none; parts = 0; remainder = 0; strong = false }
 unfolding gradeOf
 none-at-9737 = refl
-
--- distance 2241 is 14 parts, remainder 412, strong
-partial-at-2241 : gradeOf (fen 2241) ≡ record { kind = partial; parts = 14; remainder = 412; strong = true }
-unfolding gradeOf
-partial-at-2241 = refl
 
 -- a remainder of 252 is weak, of 253 strong
 weak-at-252 : gradeOf (fen 8979) ≡ record { kind = partial; parts = 1; remainder = 252; strong = false }

@@ -72,13 +72,9 @@ rounded : (n : ℕ) → nearest (pos n) fenNodeSeconds ≡ pos ((n + 5000) / 100
 unfolding nearest
 rounded n = ap pos (omega arith)
 
-pub distance-near : (p : NodeSecond) → p .0 < half .0 - p .0 → fen ((p .0 + 5000) / 10000) ≡ distanceOf p
+pub distance-is : (p : NodeSecond) → fen ((min (p .0) (half .0 - p .0) + 5000) / 10000) ≡ distanceOf p
 unfolding distanceOf
-distance-near p h = rw (rounded (min (p .0) (half .0 - p .0))) (ap fen (omega arith))
-
-pub distance-far : (p : NodeSecond) → half .0 - p .0 ≤ p .0 → fen ((half .0 - p .0 + 5000) / 10000) ≡ distanceOf p
-unfolding distanceOf
-distance-far p h = rw (rounded (min (p .0) (half .0 - p .0))) (ap fen (omega arith))
+distance-is p = rw (rounded (min (p .0) (half .0 - p .0)))
 
 -- ---- the side
 

@@ -5,6 +5,11 @@ use Rattle.eclipse.specs.declared.Grade.{Grade}
 use Rattle.eclipse.specs.declared.Grade.the-variants.{None, Total, Partial}
 use Rattle.eclipse.specs.Eclipse.{none, total, partial, Graded}
 use Rattle.eclipse.specs.Answers.{gradeMeans}
+use Rattle.numbers.specs.OneResult.{OneResult}
+use Rattle.numbers.proofs.OneResult.{one}
+use Rattle.eclipse.proofs.node_place.Reads as node-place
+use Rattle.eclipse.proofs.node_of.Reads as node-of
+use Rattle.eclipse.proofs.grade_of.Reads as grade-of
 
 abbrev shareIn : Graded → Share
 shareIn g = record { parts = g .parts; remainder = g .remainder; strong = g .strong }
@@ -19,3 +24,14 @@ back (Partial s) = refl
 
 pub one-grade : (x y : Grade) → gradeMeans x ≡ gradeMeans y → x ≡ y
 one-grade x y h = sym (back x) ∙ ap gradeIn h ∙ back y
+
+-- ---- what each public function promises leaves one answer
+
+pub one-node-place : OneResult node-place.Learnt
+one-node-place _ _ _ _ _ _ = one
+
+pub one-node-of : OneResult node-of.Learnt
+one-node-of _ _ _ _ _ _ = one
+
+pub one-grade-of : OneResult grade-of.Learnt
+one-grade-of _ _ x y _ _ p q = one-grade x y (one p q)

@@ -56,6 +56,7 @@ inHalf place = nodeSeconds (elim (isYin place) [ true ↦ place .0 - half .0 | f
 unfoldable pub distanceOf : NodeSecond → Fen
 distanceOf n = fen (whole (nearest (pos (min (n .0) (half .0 - n .0))) fenNodeSeconds))
 
+-- the side and the distance of a place
 unfoldable pub nodeOf : NodeSecond → Node
 nodeOf place = record { side = sideOf place; distance = distanceOf (inHalf place) }
 

@@ -1,16 +1,16 @@
 ghost use mathlib.Core.Path.{_≡_};
-ghost use Prim.Native.Nat.{_*_, _<_, _≤_, _^_};
+ghost use Prim.Native.Nat.{_*_, _<_, _≤_, _^_, min};
 ghost use lib.IntN.{natAbs};
 ghost use Rattle.eclipse.specs.Eclipse.{period, byoToNodeSeconds, moonShare, half, nodePlace, distanceOf, nodeOf, gradeOf};
 ghost use Rattle.eclipse.specs.Answers.{gradeMeans};
 ghost use Rattle.eclipse.specs.Room.{Placeable};
-use units::BYO_OF_FEN;
+use units::BYO_IN_FEN;
 use units::Byo;
 use units::Fen;
 
-const NODE_SECONDS_OF_FEN: u64 = 10_000;
+const NODE_SECONDS_IN_FEN: u64 = 10_000;
 
-const NODE_SECONDS_OF_BYO: u64 = NODE_SECONDS_OF_FEN / BYO_OF_FEN;
+const NODE_SECONDS_IN_BYO: u64 = NODE_SECONDS_IN_FEN / BYO_IN_FEN;
 
 // The node's period, 228,582.6512 fen, and half of it.
 const PERIOD: u64 = 228582_6512;
@@ -49,11 +49,11 @@ pub enum Grade {
     Partial(Share),
 }
 
-fn byo_to_node_seconds(b: Byo) -> NodeSecond
-    requires { ⌜ b .0 * 1250 < 2 ^ 64 ⌝ }
-    ensures { λ r. ⌜ r ≡ byoToNodeSeconds b ⌝ }
+fn byo_to_node_seconds(moment: Byo) -> NodeSecond
+    requires { ⌜ moment .0 * 1250 < 2 ^ 64 ⌝ }
+    ensures { λ r. ⌜ r ≡ byoToNodeSeconds moment ⌝ }
 {
-    NodeSecond(b.0 * NODE_SECONDS_OF_BYO)
+    NodeSecond(moment.0 * NODE_SECONDS_IN_BYO)
 }
 
 fn moon_share(moon: i64) -> i64
@@ -70,20 +70,22 @@ pub fn node_place(mean: Byo, sun: i64, moon: i64) -> NodeSecond
 {
     let past = byo_to_node_seconds(mean).0 % PERIOD;
     let correction = sun + moon_share(moon);
-    NodeSecond(((past + PERIOD) as i64 + correction * (NODE_SECONDS_OF_FEN as i64)) as u64 % PERIOD)
+    NodeSecond(((past + PERIOD) as i64 + correction * (NODE_SECONDS_IN_FEN as i64)) as u64 % PERIOD)
 }
 
-// The distance of a place in half a period from the nearer end of it.
+fn lesser(one: u64, other: u64) -> u64
+    ensures { λ r. ⌜ r ≡ min one other ⌝ }
+{
+    if one < other { one } else { other }
+}
+
+// The distance of a place in half a period from the nearer end of it, rounded.
 fn distance_of(place: NodeSecond) -> Fen
     requires { ⌜ place .0 ≤ half .0 ⌝ }
     ensures { λ r. ⌜ r ≡ distanceOf place ⌝ }
 {
-    let rest = HALF - place.0;
-    if place.0 < rest {
-        Fen((place.0 + NODE_SECONDS_OF_FEN / 2) / NODE_SECONDS_OF_FEN)
-    } else {
-        Fen((rest + NODE_SECONDS_OF_FEN / 2) / NODE_SECONDS_OF_FEN)
-    }
+    let nearer = lesser(place.0, HALF - place.0);
+    Fen((nearer + NODE_SECONDS_IN_FEN / 2) / NODE_SECONDS_IN_FEN)
 }
 
 // The side and the distance of a place.

@@ -3,6 +3,7 @@ use mathlib.Core.Path.{_≡_}
 use Prim.Native.Nat.{ℕ, _+_, _*_, _/_, _<_, _≤_}
 use native.Mathlib.Omega.{arith}
 use Rattle.numbers.specs.Spans.{Takes}
+use Rattle.numbers.proofs.Spans.{Growing, growing}
 use Rattle.genka.specs.Genka.{dayHalfParts, newMoon, newMoonDay, fullMoon, midTermDay, yearsSinceOrigin, rainWater}
 use Rattle.genka.specs.Room.{meanMonth}
 
@@ -15,6 +16,12 @@ month-takes k = record { at-least = omega arith; at-most = omega arith }
 
 pub term-takes : (j : ℕ) → Takes midTermDay j 30 31
 term-takes j = record { at-least = omega arith; at-most = omega arith }
+
+pub new-moons-grow : Growing newMoonDay
+new-moons-grow = growing newMoonDay 29 30 (omega arith) (omega arith) month-takes
+
+pub terms-grow : Growing midTermDay
+terms-grow = growing midTermDay 30 31 (omega arith) (omega arith) term-takes
 
 -- the mid-terms of 14 years take no more than 5,114 days, and 174 months take more
 pub months-of-14-years : (k : ℕ) → newMoonDay k + 5114 < newMoonDay (k + 174)

@@ -1,2 +1,3 @@
 pub mod GenkaLaws
 pub mod Figures
+pub mod OneAnswer

@@ -1,3 +1,4 @@
 pub mod Division
 pub mod Nearness
 pub mod Moment
+pub mod OneAnswer

@@ -9,7 +9,7 @@ use lib.Ieee.Positive.{num, den, positive}
 unfoldable pub rounded : ℕ → ℕ → Float
 rounded n d = round binary64 false n d
 
--- day − 1/2 + part of the day, as so many parts, of which a day has an even number
+-- day − 1/2 + part of the day, as so many parts, of which a day has an even number (0 before the noon at which Julian dates begin)
 abbrev pub numerator : ℕ → ℕ → ℕ → ℕ
 numerator day part ofDay = day * ofDay + part - ofDay / 2
 

@@ -4,3 +4,4 @@ pub mod Extending
 pub mod Examined
 pub mod Steps
 pub mod Figures
+pub mod OneAnswer

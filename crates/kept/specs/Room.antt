@@ -24,7 +24,7 @@ pub record Kept (run : Run) : Type 0 where
   pub room : CoveredYears (run .calendar) (run .«first_year») (run .years)
   pub at-least-1 : 1 ≤ run .years
 
--- .. or of none, and there is room for the year behind them
+-- .. or of none, and there is room for the year after them
 pub record Extendable (run : Run) : Type 0 where
   pub own : run ≡ runOf (run .calendar) (run .«first_year») (run .years)
   pub room : CoveredYears (run .calendar) (run .«first_year») (run .years + 1)

@@ -3,7 +3,7 @@ use mathlib.Core.Path.{_≡_, refl, sym, ap, _∙_}
 use mathlib.Core.Bool.{true, false, _&&_, and-true, and-false, and-assoc, and-eq-true-iff, true≢false}
 use mathlib.Core.List.{List, [], _∷_, _++_}
 use Prim.Native.Nat.{ℕ, zero, suc, _+_, _-_, _*_, _^_, _<_, _≤_}
-use native.Mathlib.Nat.{pow-suc, mul-assoc, mul-le-mul-right, pow-le-pow-right, zero-lt-suc}
+use native.Mathlib.Nat.{pow-suc, mul-assoc, mul-le-mul-right}
 use native.Mathlib.Numerals.{add-one}
 use native.Mathlib.Omega.{arith}
 use borrow.Author.Tests.{leb-true, ne-eqb}
@@ -65,11 +65,10 @@ value-small (first ∷ digits) h =
 pub record OfNine (bytes : List ℕ) : Type 0 where
   pub short : length bytes ≤ 9
   pub digits : allDigits bytes ≡ true
-  pub small : valueOf bytes < 10 ^ 9
 
 pub of-nine : (bytes : List ℕ) → isNumber bytes ≡ true → OfNine bytes
 unfolding isNumber
 of-nine bytes e =
     let (sized, digits) = and-eq-true-iff (leb 1 (length bytes) && leb (length bytes) 9) (allDigits bytes) .0 e in
     let short = leb-true (length bytes) 9 (and-eq-true-iff (leb 1 (length bytes)) (leb (length bytes) 9) .0 sized .1) in
-    record { short = short; digits = digits; small = omega (arith, value-small bytes digits, pow-le-pow-right (zero-lt-suc 9) short) }
+    record { short = short; digits = digits }

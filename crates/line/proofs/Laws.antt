@@ -1,26 +1,17 @@
--- Laws of the line: exactly the lines are taken, whatever follows them; the first 20 bytes decide; both numbers are below 10 ^ 9.
+-- Laws of the line: exactly the lines are taken, whatever follows them; the first 20 bytes decide; every refusal is 12.
 use mathlib.Core.Path.{_≡_, refl, sym, ap, _∙_}
 use mathlib.Core.Bool.{Bool, true, false, _&&_, and-eq-true-iff}
 use mathlib.Core.List.{List, [], _∷_, _++_, append-assoc}
-use Prim.Native.Nat.{ℕ, suc, _+_, _-_, _^_, _<_, _≤_}
+use Prim.Native.Nat.{ℕ, suc, _+_, _-_, _≤_}
 use native.Mathlib.Omega.{arith}
 use lib.ListN.{length, take, drop, length-append, take-append-drop}
 use lib.Seq.{take-append-add}
 use Rattle.numbers.specs.Answer.{Answer, given, refused, need}
 use Rattle.numbers.proofs.Answers.{gives}
 use Rattle.line.specs.declared.Line.{Line}
-use Rattle.line.specs.declared.LineAnswer.{LineAnswer}
-use Rattle.line.specs.declared.LineAnswer.the-variants as answer
-use Rattle.line.specs.Line.{lineFeed, space, isNumber, valueOf, has, before, behind, numbersOf, lineOf, means}
+use Rattle.line.specs.Line.{lineFeed, space, isNumber, valueOf, has, before, behind, numbersOf, lineOf}
 use Rattle.line.proofs.Cuts.{has-joined, cut-at, whole}
 use Rattle.line.proofs.Digits.{not-among, of-nine}
-
--- two answers that mean the same are one
-pub means-one : (x y : LineAnswer) → means x ≡ means y → x ≡ y
-means-one (answer.Line x) (answer.Line y) h = cc
-means-one (answer.Line x) (answer.Refused n) h = cc
-means-one (answer.Refused n) (answer.Line y) h = cc
-means-one (answer.Refused n) (answer.Refused m) h = cc
 
 -- a number, a space, a number, a line feed
 pub record IsLine (text : List ℕ) (line : Line) : Type 0 where
@@ -81,12 +72,6 @@ pub rest-free : (bytes more : List ℕ) (line : Line) → lineOf bytes ≡ given
 rest-free bytes more line e =
     let begins = only bytes line e in
     rw (begins .bytes-are, append-assoc) (taken (begins .text) (begins .more ++ more) line (begins .is-line))
-
--- both numbers are below 10 ^ 9
-pub numbers-small : (bytes : List ℕ) (line : Line) → lineOf bytes ≡ given line → (line .calendar < 10 ^ 9) × (line .year < 10 ^ 9)
-numbers-small bytes line e =
-    let is-line = only bytes line e .is-line in
-    rw (is-line .line-is) (of-nine (is-line .calendar) (is-line .calendar-is) .small, of-nine (is-line .year) (is-line .year-is) .small)
 
 -- every refusal is 12
 pub refusal-12 : (bytes : List ℕ) (refusal : ℕ) → lineOf bytes ≡ refused refusal → refusal ≡ 12

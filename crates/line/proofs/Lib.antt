@@ -2,3 +2,4 @@ pub mod Cuts
 pub mod Digits
 pub mod Laws
 pub mod Figures
+pub mod OneAnswer

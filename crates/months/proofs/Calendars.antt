@@ -2,8 +2,7 @@
 use mathlib.Core.Path.{_≡_}
 use Prim.Native.Nat.{ℕ, _+_, _*_, _<_, _≤_, _^_}
 use native.Mathlib.Omega.{arith}
-use Rattle.numbers.specs.Spans.{Holds}
-use Rattle.numbers.proofs.Spans.{growing, one-span}
+use Rattle.numbers.proofs.Spans.{one-span}
 use Rattle.senmyo.proofs.Lengths as senmyo-lengths
 use Rattle.genka.proofs.GenkaLaws as genka-laws
 use Rattle.months.specs.declared.Calendar.{Calendar}
@@ -17,7 +16,7 @@ pub senmyo-steady : Steady senmyo
 senmyo-steady =
     record {
       months-grow = senmyo-lengths.new-moons-grow;
-      terms-grow = growing (senmyo .mid) 30 31 (omega arith) (omega arith) senmyo-lengths.term-takes;
+      terms-grow = senmyo-lengths.terms-grow;
       terms-apart = senmyo-lengths.term-takes;
       twelve-terms = λ y. omega arith;
       numbers = λ y i h. omega (arith, h);
@@ -26,8 +25,8 @@ senmyo-steady =
 pub genka-steady : Steady genka
 genka-steady =
     record {
-      months-grow = growing (genka .start) 29 30 (omega arith) (omega arith) genka-laws.month-takes;
-      terms-grow = growing (genka .mid) 30 31 (omega arith) (omega arith) genka-laws.term-takes;
+      months-grow = genka-laws.new-moons-grow;
+      terms-grow = genka-laws.terms-grow;
       terms-apart = genka-laws.term-takes;
       twelve-terms = λ y. omega arith;
       numbers = λ y i h. omega (arith, h);
@@ -85,6 +84,3 @@ guess Genka d = record { opened = genka-laws.opened-by-start d; soon = genka-law
 
 pub one-month-of-day : (c : Calendar) (d k l : ℕ) → Has (rulesOf c) k d → Has (rulesOf c) l d → k ≡ l
 one-month-of-day c d k l h g = one-span (rulesOf c .start) (steady c .months-grow) k l d h g
-
-pub one-term-by-day : (c : Calendar) (d i j : ℕ) → Holds (rulesOf c .mid) i d → Holds (rulesOf c .mid) j d → i ≡ j
-one-term-by-day c d i j h g = one-span (rulesOf c .mid) (steady c .terms-grow) i j d h g

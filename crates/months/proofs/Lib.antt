@@ -7,3 +7,4 @@ pub mod FourteenYears
 pub mod Figures
 pub mod CoveredYears
 pub mod Moments
+pub mod OneAnswer

@@ -174,7 +174,7 @@ module _ (r : Rules) (s : Steady r) (y : ℕ) (length : (k : ℕ) → firstMonth
                 let below : monthWith i + (g .t - i) ≤ monthWith (g .t) = rw up at (climbs i (g .t - i) (omega (arith, h, g .t-to))) in
                 let here : monthWith i ≡ firstMonth r y + i = omega (arith, below, h, g .before, at-or-after i (omega (arith, h, g .t-to))) in
                 rw here at (numbered i (omega (arith, h, g .t-to)));
-            behind = λ i h l.
+            after = λ i h l.
                 let up : (g .t + 1) + (i - (g .t + 1)) ≡ i = omega (arith, h) in
                 let above : monthWith (g .t + 1) + (i - (g .t + 1)) ≤ monthWith i = rw up at (climbs (g .t + 1) (i - (g .t + 1)) (omega (arith, h, l))) in
                 let here : monthWith i ≡ firstMonth r y + i + 1 = omega (arith, above, h, l, e, g .behind, at-or-before i (omega (arith, l))) in

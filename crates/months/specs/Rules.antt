@@ -13,7 +13,7 @@ pub record Rules : Type 0 where
   -- the covered years
   pub firstYear : ℕ
   pub lastYear : ℕ
-  -- the day of new moon k
+  -- the day to which new moon k counts: where month k starts
   pub start : ℕ → ℕ
   -- the day of mid-term j
   pub mid : ℕ → ℕ
@@ -65,7 +65,7 @@ genka =
       fullMoon = λ k. moment (genka-means.fullMoon k .0) genka-means.dayHalfParts;
     }
 
--- the day number of a day
+-- the day number of a day (0 of any day before day number 0)
 abbrev pub dayNumber : Rules → ℕ → ℕ
 dayNumber r d = d - r .dayZero
 

@@ -1,4 +1,4 @@
--- What the third demand says of a year.
+-- What is demanded of every covered year (docs/PROMISES.md, the third demand).
 use mathlib.Core.Path.{_≡_}
 use mathlib.Core.Bool.{true, false}
 use Prim.Native.Nat.{ℕ, _+_, _<_, _≤_}
@@ -44,7 +44,7 @@ pub record Twelve (r : Rules) (y : ℕ) : Type 0 where
   pub count : monthCount r y ≡ 12
   pub each : (i : ℕ) → i < 12 → Numbered r y i (firstMonth r y + i)
 
--- thirteen: one of them is leap, and each other, before it and behind it, has the mid-term of its number
+-- thirteen: one of them is leap, and each other, before it and after it, has the mid-term of its number
 pub record Thirteen (r : Rules) (y : ℕ) : Type 0 where
   pub count : monthCount r y ≡ 13
   pub leapNumber : ℕ
@@ -52,13 +52,13 @@ pub record Thirteen (r : Rules) (y : ℕ) : Type 0 where
   pub to-12 : leapNumber ≤ 12
   pub leap : LeapAfter r leapNumber (firstMonth r y + leapNumber)
   pub before : (i : ℕ) → i < leapNumber → Numbered r y i (firstMonth r y + i)
-  pub behind : (i : ℕ) → leapNumber ≤ i → i < 12 → Numbered r y i (firstMonth r y + i + 1)
+  pub after : (i : ℕ) → leapNumber ≤ i → i < 12 → Numbered r y i (firstMonth r y + i + 1)
 
 pub data TwelveOrThirteen (r : Rules) (y : ℕ) : Type 0 where
   twelve : Twelve r y → TwelveOrThirteen r y
   thirteen : Thirteen r y → TwelveOrThirteen r y
 
--- the months follow each other without gap or overlap, from the year's first day to the eve of the next year's, each of 29 or 30 days
+-- the months follow each other without gap or overlap, from the year's first day to the eve of the next year's, each of 29 or 30 days, and there are 12 or 13
 pub record Year (r : Rules) (y : ℕ) : Type 0 where
   pub length : (k : ℕ) → OfYear r y k → MonthDays r k
   pub one-month : (d : ℕ) → firstDay r y ≤ d → d < nextFirstDay r y → OneMonth r y d

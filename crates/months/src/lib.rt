@@ -4,8 +4,8 @@ ghost use Rattle.numbers.specs.Spans.{Holds};
 ghost use Rattle.months.specs.Rules.{rulesOf};
 ghost use Rattle.months.specs.Months.{coveredYears, spanned, monthOf, monthWith, termNumber, lastTerm, nameOf, yearWith};
 ghost use Rattle.months.specs.Room.{meanMonth, Fitting, Covering};
-use genka::HALF_PARTS_OF_DAY;
-use units::FEN_OF_DAY;
+use genka::HALF_PARTS_IN_DAY;
+use units::FEN_IN_DAY;
 
 pub enum Calendar {
     Senmyo,
@@ -208,11 +208,11 @@ pub fn new_moon(calendar: Calendar, month: u32) -> Moment
     match calendar {
         Calendar::Senmyo => Moment {
             units: senmyo::new_moon(month).0,
-            of_day: FEN_OF_DAY as u32,
+            of_day: FEN_IN_DAY as u32,
         },
         Calendar::Genka => Moment {
             units: genka::part_to_half_parts(genka::new_moon(month)).0,
-            of_day: HALF_PARTS_OF_DAY as u32,
+            of_day: HALF_PARTS_IN_DAY as u32,
         },
     }
 }
@@ -224,11 +224,11 @@ pub fn full_moon(calendar: Calendar, month: u32) -> Moment
     match calendar {
         Calendar::Senmyo => Moment {
             units: senmyo::full_moon_fen(month).0,
-            of_day: FEN_OF_DAY as u32,
+            of_day: FEN_IN_DAY as u32,
         },
         Calendar::Genka => Moment {
             units: genka::full_moon(month).0,
-            of_day: HALF_PARTS_OF_DAY as u32,
+            of_day: HALF_PARTS_IN_DAY as u32,
         },
     }
 }

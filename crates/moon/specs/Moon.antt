@@ -18,6 +18,7 @@ use Rattle.moon.specs.declared.Share.{Share}
 abbrev pub row : Change → ℕ → MoonRow
 row change sum = (change, sum)
 
+-- Table 4, upper half
 unfoldable pub upperRows : List MoonRow
 upperRows =
     row (Gain 830) 0 ∷
@@ -35,6 +36,7 @@ upperRows =
     row (Loss 748) 1394 ∷
     row (FirstLoss 646) 646 ∷ []
 
+-- Table 4, lower half
 unfoldable pub lowerRows : List MoonRow
 lowerRows =
     row (Gain 830) 0 ∷
@@ -61,8 +63,8 @@ abbrev pub noRow : MoonRow
 noRow = row (Gain 0) 0
 
 -- fen in half anomaly seconds
-abbrev pub halfSeconds : ℕ → ℕ
-halfSeconds f = f * 200
+abbrev pub fenToHalfSeconds : ℕ → ℕ
+fenToHalfSeconds f = f * 200
 
 -- the period in anomaly seconds, 231,458.19 fen, and its half in half anomaly seconds, 115,729.095 fen
 abbrev pub period : ℕ
@@ -77,20 +79,20 @@ part sum change t length = record { numerator = pos (sum * length) +ℤ change *
 
 -- t half anomaly seconds into a row's day: gain positive, loss negative; row 7 gains up to 7465 fen and then loses; in row 14, 6529 stands for 8400
 unfoldable pub shareOf : Change → ℕ → ℕ → Share
-shareOf (Gain gain) sum t = part sum (plus gain) t (halfSeconds dayFen)
-shareOf (Loss loss) sum t = part sum (minus loss) t (halfSeconds dayFen)
+shareOf (Gain gain) sum t = part sum (plus gain) t (fenToHalfSeconds dayFen)
+shareOf (Loss loss) sum t = part sum (minus loss) t (fenToHalfSeconds dayFen)
 shareOf (GainThenLoss gain loss) sum t =
-    elim (leb t (halfSeconds 7465)) [
-      | true ↦ part sum (plus gain) t (halfSeconds 7465)
-      | false ↦ part (sum + gain) (minus loss) (t - halfSeconds 7465) (halfSeconds 935)
+    elim (leb t (fenToHalfSeconds 7465)) [
+      | true ↦ part sum (plus gain) t (fenToHalfSeconds 7465)
+      | false ↦ part (sum + gain) (minus loss) (t - fenToHalfSeconds 7465) (fenToHalfSeconds 935)
     ]
-shareOf (FirstLoss loss) sum t = part sum (minus loss) t (halfSeconds 6529)
+shareOf (FirstLoss loss) sum t = part sum (minus loss) t (fenToHalfSeconds 6529)
 
 -- d whole days and t over into a half: row d + 1
 unfoldable pub inHalf : Bool → ℕ → Share
 inHalf upper h =
-    let w : MoonRow = getD (rows upper) (h / halfSeconds dayFen) noRow in
-    shareOf (w .0) (w .1) (h % halfSeconds dayFen)
+    let w : MoonRow = getD (rows upper) (h / fenToHalfSeconds dayFen) noRow in
+    shareOf (w .0) (w .1) (h % fenToHalfSeconds dayFen)
 
 -- the upper half with plus, the lower with minus
 abbrev pub signed : Bool → ℤ → ℤ

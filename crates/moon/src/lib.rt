@@ -1,11 +1,11 @@
 use units::AnomalySecond;
-use units::FEN_OF_DAY;
+use units::FEN_IN_DAY;
 ghost use mathlib.Core.Path.{_≡_};
 ghost use Prim.Native.Nat.{_<_};
 ghost use lib.ListN.{getD};
 ghost use Rattle.units.specs.Units.{dayFen};
 ghost use Rattle.numbers.specs.Sign.{plus, minus};
-ghost use Rattle.moon.specs.Moon.{rows, noRow, halfSeconds, halfPeriod, part, shareOf, inHalf, moonOf};
+ghost use Rattle.moon.specs.Moon.{rows, noRow, fenToHalfSeconds, halfPeriod, part, shareOf, inHalf, moonOf};
 ghost use Rattle.moon.specs.Room.{Part};
 
 // Half an anomaly second, 1/200 fen: the half period is not whole in anomaly seconds.
@@ -37,7 +37,7 @@ const PERIOD: u64 = 231458_19;
 const HALF_PERIOD: u64 = 2 * PERIOD / 2;
 
 // In half anomaly seconds: a day, the two parts of row 7, and what stands for a day in row 14.
-const DAY: u64 = FEN_OF_DAY * 200;
+const DAY: u64 = FEN_IN_DAY * 200;
 
 const GAINING_IN_7: u64 = 7465 * 200;
 
@@ -112,7 +112,7 @@ fn losing(sum: u64, loss: u32, over: HalfSecond, length: HalfSecond) -> Share
 
 // The correction so far into a day of the table, without its sign.
 fn share_of(row: MoonRow, over: HalfSecond) -> Share
-    requires { ⌜ over .0 < halfSeconds dayFen ⌝ }
+    requires { ⌜ over .0 < fenToHalfSeconds dayFen ⌝ }
     ensures { λ r. ⌜ r ≡ shareOf (row .0) (row .1) (over .0) ⌝ }
 {
     let change = row.0;

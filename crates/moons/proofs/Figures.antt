@@ -26,7 +26,7 @@ unfolding fullMoonAt sunAt moonAt corrections fullMoon nodePlaceAt nodePlace mod
 moon-1522 = refl
 
 -- .. 14 parts, remainder 412, strong
-eclipse-1522 : eclipseOf 1 1522 2 false ≡
+pub eclipse-1522 : eclipseOf 1 1522 2 false ≡
     given
     (record { day = 2277039; fen = fen 6215; side = Yin; distance = fen 2241 }, record { kind = partial; parts = 14; remainder = 412; strong = true })
 unfolding eclipseOf rulesOf dayAt gradeOf

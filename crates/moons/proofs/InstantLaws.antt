@@ -14,9 +14,11 @@ use Rattle.months.specs.Room.{Covering}
 use Rattle.asked.specs.Asked.{isCalendar, numbered, rulesFor, isCovered, monthNamed, hasMonth}
 use Rattle.asked.proofs.Covered.{covered-year-told, name-found, month-covering}
 use Rattle.moons.specs.declared.Moons.{Moons}
-use Rattle.moons.specs.Instants.{instantIn, NearMoment, ofMonth, newMoonIn, newMoonOf, fullMoonIn, fullMoonOf, moonsIn, moonsOf}
-use Rattle.moons.specs.Room.{Dated}
-use Rattle.moons.proofs.Moments.{new-dated, full-dated}
+use Rattle.moons.specs.declared.Phase.{Phase}
+use Rattle.moons.specs.declared.Phase.the-variants.{New, Full}
+use Rattle.moons.specs.Instants.{instantIn, NearMoment, ofMonth, newMoonOf, fullMoonOf, moonsIn, moonsOf}
+use Rattle.moons.specs.Room.{momentIn, phaseOf, Dated}
+use Rattle.moons.proofs.Moments.{moon-dated}
 use Rattle.moons.proofs.Refusals.{of-given}
 
 -- ---- both together
@@ -61,15 +63,18 @@ module _ (c y m : ℕ) (leap : Bool) where
   given-is : {A : Type 0} (what : Rules → ℕ → A) (a : A) → ofMonth what c y m leap ≡ given a → what (rulesFor c) month ≡ a
   given-is what a e = one-given (what (rulesFor c) month) a (of-given c y m leap what a .only-if e .1 .1 .1)
 
+  moon-near : (phase : Phase) (x : Float) → phaseOf phase c y m leap ≡ given x → NearMoment (rulesFor c) (momentIn phase (rulesFor c) month) x
+  moon-near phase x e =
+      let what : Rules → ℕ → Float = λ r k. instantIn r (momentIn phase r k) in
+      subst (NearMoment (rulesFor c) (momentIn phase (rulesFor c) month)) (given-is what x e) (moment-near _ _ (moon-dated (numbered c) month (given-covering what x e) phase))
+
   pub new-near : (x : Float) → newMoonOf c y m leap ≡ given x → NearMoment (rulesFor c) (rulesFor c .newMoon month) x
   unfolding newMoonOf
-  new-near x e =
-      subst (NearMoment (rulesFor c) (rulesFor c .newMoon month)) (given-is newMoonIn x e) (moment-near _ _ (new-dated (numbered c) month (given-covering newMoonIn x e)))
+  new-near x e = moon-near New x e
 
   pub full-near : (x : Float) → fullMoonOf c y m leap ≡ given x → NearMoment (rulesFor c) (rulesFor c .fullMoon month) x
   unfolding fullMoonOf
-  full-near x e =
-      subst (NearMoment (rulesFor c) (rulesFor c .fullMoon month)) (given-is fullMoonIn x e) (moment-near _ _ (full-dated (numbered c) month (given-covering fullMoonIn x e)))
+  full-near x e = moon-near Full x e
 
   -- so both are numbers
   pub both-numbers : (p : Moons) → moonsOf c y m leap ≡ given p → Numbers p
@@ -78,6 +83,6 @@ module _ (c y m : ℕ) (leap : Bool) where
       let h = given-covering moonsIn p e in
       subst Numbers (given-is moonsIn p e)
       (record {
-        new = near-number _ _ _ (moment-near _ _ (new-dated (numbered c) month h));
-        full = near-number _ _ _ (moment-near _ _ (full-dated (numbered c) month h));
+        new = near-number _ _ _ (moment-near _ _ (moon-dated (numbered c) month h New));
+        full = near-number _ _ _ (moment-near _ _ (moon-dated (numbered c) month h Full));
       })

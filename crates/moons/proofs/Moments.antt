@@ -24,15 +24,12 @@ record Units (t : Moment) : Type 0 where
   few : t .«of_day» ≤ 2 ^ 20
   even : t .«of_day» % 2 ≡ 0
 
-new-units : (c : Calendar) (k : ℕ) → Units (rulesOf c .newMoon k)
+moon-units : (c : Calendar) (phase : Phase) (k : ℕ) → Units (momentIn phase (rulesOf c) k)
 unfolding rulesOf
-new-units Senmyo k = record { some = omega arith; few = omega arith; even = refl }
-new-units Genka k = record { some = omega arith; few = omega arith; even = refl }
-
-full-units : (c : Calendar) (k : ℕ) → Units (rulesOf c .fullMoon k)
-unfolding rulesOf
-full-units Senmyo k = record { some = omega arith; few = omega arith; even = refl }
-full-units Genka k = record { some = omega arith; few = omega arith; even = refl }
+moon-units Senmyo New k = record { some = omega arith; few = omega arith; even = refl }
+moon-units Senmyo Full k = record { some = omega arith; few = omega arith; even = refl }
+moon-units Genka New k = record { some = omega arith; few = omega arith; even = refl }
+moon-units Genka Full k = record { some = omega arith; few = omega arith; even = refl }
 
 -- a moment of a day that has a day number
 dated : (r : Rules) (t : Moment) → Units t → r .dayZero + 2 ≤ daysAt t → daysAt t < r .dayZero + 2 ^ 22 → Dated r t
@@ -50,19 +47,13 @@ module _ (c : Calendar) (k : ℕ) (h : Covering (rulesOf c) k) where
   to-end : rulesOf c .start k + 29 < rulesOf c .dayZero + 2 ^ 22
   to-end = omega (arith, its-days c k h .at-least, ends-covered c k h, edges c .last-day)
 
-  pub new-dated : Dated (rulesOf c) (rulesOf c .newMoon k)
-  new-dated =
-      let days = moon-days c k in
-      dated (rulesOf c) (rulesOf c .newMoon k) (new-units c k) (omega (arith, days .new-from, from-start)) (omega (arith, days .new-to, to-end))
-
-  pub full-dated : Dated (rulesOf c) (rulesOf c .fullMoon k)
-  full-dated =
-      let days = moon-days c k in
-      dated (rulesOf c) (rulesOf c .fullMoon k) (full-units c k) (omega (arith, days .full-from, from-start)) (omega (arith, days .full-to, to-end))
-
   pub moon-dated : (phase : Phase) → Dated (rulesOf c) (momentIn phase (rulesOf c) k)
-  moon-dated New = new-dated
-  moon-dated Full = full-dated
+  moon-dated New =
+      let days = moon-days c k in
+      dated (rulesOf c) _ (moon-units c New k) (omega (arith, days .new-from, from-start)) (omega (arith, days .new-to, to-end))
+  moon-dated Full =
+      let days = moon-days c k in
+      dated (rulesOf c) _ (moon-units c Full k) (omega (arith, days .full-from, from-start)) (omega (arith, days .full-to, to-end))
 
 -- the day of Senmyo's full moon has a day number
 pub record Numbered (d : ℕ) : Type 0 where
@@ -72,7 +63,7 @@ pub record Numbered (d : ℕ) : Type 0 where
 pub full-numbered : (k : ℕ) → Covering senmyo k → Numbered (wholeDays (fullMoonFen k))
 unfolding rulesOf
 full-numbered k h =
-    let t = full-dated Senmyo k h in
+    let t = moon-dated Senmyo k h Full in
     record { from = t .after-zero; to = omega (arith, t .after-zero, t .datable .to) }
 
 -- ---- the numerator of an instant, over whole numbers
@@ -81,12 +72,9 @@ full-numbered k h =
 pub record Exact (r : Rules) (t : Moment) : Type 0 where
   pub doubled : 2 * numerator (dayNumberAt r t) (partAt t) (t .«of_day») + (2 * r .dayZero + 1) * t .«of_day» ≡ 2 * t .units
 
-pub new-exact : (c : Calendar) (k : ℕ) → Covering (rulesOf c) k → Exact (rulesOf c) (rulesOf c .newMoon k)
+pub moon-exact : (c : Calendar) (phase : Phase) (k : ℕ) → Covering (rulesOf c) k → Exact (rulesOf c) (momentIn phase (rulesOf c) k)
 unfolding rulesOf
-new-exact Senmyo k h = let t = new-dated Senmyo k h in record { doubled = omega (arith, t .after-zero, t .datable .from) }
-new-exact Genka k h = let t = new-dated Genka k h in record { doubled = omega (arith, t .after-zero, t .datable .from) }
-
-pub full-exact : (c : Calendar) (k : ℕ) → Covering (rulesOf c) k → Exact (rulesOf c) (rulesOf c .fullMoon k)
-unfolding rulesOf
-full-exact Senmyo k h = let t = full-dated Senmyo k h in record { doubled = omega (arith, t .after-zero, t .datable .from) }
-full-exact Genka k h = let t = full-dated Genka k h in record { doubled = omega (arith, t .after-zero, t .datable .from) }
+moon-exact Senmyo New k h = let t = moon-dated Senmyo k h New in record { doubled = omega (arith, t .after-zero, t .datable .from) }
+moon-exact Senmyo Full k h = let t = moon-dated Senmyo k h Full in record { doubled = omega (arith, t .after-zero, t .datable .from) }
+moon-exact Genka New k h = let t = moon-dated Genka k h New in record { doubled = omega (arith, t .after-zero, t .datable .from) }
+moon-exact Genka Full k h = let t = moon-dated Genka k h Full in record { doubled = omega (arith, t .after-zero, t .datable .from) }

@@ -12,6 +12,12 @@ use Rattle.moons.specs.declared.Instant.the-variants as instant
 use Rattle.moons.specs.declared.MoonsAnswer.{MoonsAnswer}
 use Rattle.moons.specs.declared.MoonsAnswer.the-variants as moons-answer
 use Rattle.moons.specs.Answers.{eclipseMeans, instantMeans, moonsMeans}
+use Rattle.numbers.specs.OneResult.{OneResult}
+use Rattle.numbers.proofs.OneResult.{one}
+use Rattle.moons.proofs.eclipse_of.Reads as eclipse-of
+use Rattle.moons.proofs.new_moon_of.Reads as new-moon-of
+use Rattle.moons.proofs.full_moon_of.Reads as full-moon-of
+use Rattle.moons.proofs.moons_of.Reads as moons-of
 
 pub one-eclipse : (x y : EclipseAnswer) → eclipseMeans x ≡ eclipseMeans y → x ≡ y
 one-eclipse (eclipse-answer.FullMoon m g) (eclipse-answer.FullMoon n h) e =
@@ -34,3 +40,17 @@ one-pair (moons-answer.Both a) (moons-answer.Both b) e = cc
 one-pair (moons-answer.Both a) (moons-answer.Refused n) e = cc
 one-pair (moons-answer.Refused n) (moons-answer.Both b) e = cc
 one-pair (moons-answer.Refused n) (moons-answer.Refused k) e = cc
+
+-- ---- what each public function promises leaves one answer
+
+pub one-eclipse-of : OneResult eclipse-of.Learnt
+one-eclipse-of _ _ x y _ _ p q = one-eclipse x y (one p q)
+
+pub one-new-moon-of : OneResult new-moon-of.Learnt
+one-new-moon-of _ _ x y _ _ p q = one-instant x y (one p q)
+
+pub one-full-moon-of : OneResult full-moon-of.Learnt
+one-full-moon-of _ _ x y _ _ p q = one-instant x y (one p q)
+
+pub one-moons-of : OneResult moons-of.Learnt
+one-moons-of _ _ x y _ _ p q = one-pair x y (one p q)

@@ -18,7 +18,7 @@ momentIn Full r k = r .fullMoon k
 abbrev pub phaseOf : Phase → ℕ → ℕ → ℕ → Bool → Answer Float
 phaseOf phase c y m leap = ofMonth (λ r k. instantIn r (momentIn phase r k)) c y m leap
 
--- a moment after day number 0 that has a Julian date
+-- a moment on or after day number 0 that has a Julian date
 pub record Dated (r : Rules) (t : Moment) : Type 0 where
   pub after-zero : r .dayZero ≤ daysAt t
   pub datable : Datable (dayNumberAt r t) (partAt t) (t .«of_day»)

@@ -9,13 +9,13 @@ pub record Exactly (A B : Type 0) : Type 0 where
   pub if : B → A
   pub only-if : A → B
 
--- what holds exactly if two things do, and the second exactly if a third does
-pub after : {A P B C : Type 0} → Exactly A (P × B) → Exactly B C → Exactly A (P × C)
-after e f = record { if = λ h. e .if (h .0, f .if (h .1)); only-if = λ a. let h = e .only-if a in (h .0, f .only-if (h .1)) }
-
--- .. also where the first thing is used for that
+-- what holds exactly if two things do, and, where the first does, the second exactly if a third does
 pub after-so : {A P B C : Type 0} → Exactly A (P × B) → (P → Exactly B C) → Exactly A (P × C)
 after-so e f = record { if = λ h. e .if (h .0, f (h .0) .if (h .1)); only-if = λ a. let h = e .only-if a in (h .0, f (h .0) .only-if (h .1)) }
+
+-- .. or whether it does or not
+pub after : {A P B C : Type 0} → Exactly A (P × B) → Exactly B C → Exactly A (P × C)
+after e f = after-so e (λ _. f)
 
 -- ---- answers
 
@@ -45,15 +45,14 @@ module _ {A : Type 0} (n : ℕ) (answer : Answer A) where
   gives true a = record { if = λ h. h .1; only-if = λ e. (refl, e) }
   gives false a = record { if = λ h. absurd (false≢true (h .0)); only-if = λ e. absurd (not-given n a e) }
 
-  -- refused with its number exactly if the condition fails, where nothing later has that number
-  pub refuses : (b : Bool) → (answer ≡ refused n → ⊥) → Exactly (need b n answer ≡ refused n) (b ≡ false)
-  refuses true none = record { if = λ h. absurd (false≢true (sym h)); only-if = λ e. absurd (none e) }
-  refuses false none = record { if = λ h. refl; only-if = λ e. refl }
-
-  -- .. or nothing later has it where the condition holds
+  -- refused with its number exactly if the condition fails, where nothing later has that number if the condition holds
   pub refuses-so : (b : Bool) → (b ≡ true → answer ≡ refused n → ⊥) → Exactly (need b n answer ≡ refused n) (b ≡ false)
   refuses-so true none = record { if = λ h. absurd (false≢true (sym h)); only-if = λ e. absurd (none refl e) }
   refuses-so false none = record { if = λ h. refl; only-if = λ e. refl }
+
+  -- .. or has it in no case
+  pub refuses : (b : Bool) → (answer ≡ refused n → ⊥) → Exactly (need b n answer ≡ refused n) (b ≡ false)
+  refuses b none = refuses-so b (λ _. none)
 
   -- refused with another number exactly if the condition holds and what follows is so refused
   pub passes : (b : Bool) (m : ℕ) → (n ≡ m → ⊥) → Exactly (need b n answer ≡ refused m) ((b ≡ true) × (answer ≡ refused m))

@@ -8,3 +8,5 @@ pub mod Spans
 pub mod Answers
 pub mod Places
 pub mod Same
+pub mod OneResult
+pub mod OneAnswer

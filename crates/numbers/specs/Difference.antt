@@ -1,4 +1,4 @@
--- The bridge between signed definitions and unsigned code.
+-- A signed number as the difference of two naturals: the form in which the laws reason about it.
 use mathlib.Core.Path.{_≡_}
 use Prim.Native.Nat.{ℕ, _+_}
 use lib.IntN.{ℤ, pos, negsuc}

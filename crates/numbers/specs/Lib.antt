@@ -5,3 +5,5 @@ pub mod Answer
 pub mod Spans
 pub mod Places
 pub mod Same
+pub mod OneResult
+pub mod Room

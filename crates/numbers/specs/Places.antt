@@ -2,7 +2,7 @@
 use mathlib.Core.List.{List, [], _∷_}
 use Prim.Native.Nat.{ℕ, zero, suc, _+_}
 
--- so many places: first so many things from thing k on, in order, then places that are not used
+-- n places: first so many things from thing k on, in order, as far as there are places, then places that are not used
 unfoldable pub places : {A : Type 0} → A → (ℕ → A) → ℕ → ℕ → ℕ → List A
 places unused thing k count zero = []
 places unused thing k zero (suc n) = unused ∷ places unused thing k zero n

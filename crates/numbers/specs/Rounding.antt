@@ -1,6 +1,6 @@
 -- Quotients of signed whole numbers: "Rounding is to nearest, halves upward, unless said otherwise; quotients are floors" (01, the first section).
-use Prim.Native.Nat.{ℕ, _-_, _*_, _/_, _%_, _<_, _^_}
-use lib.IntN.{ℤ, pos, negsuc, natAbs, _+ℤ_, _*ℤ_}
+use Prim.Native.Nat.{ℕ, _-_, _*_, _/_, _%_}
+use lib.IntN.{ℤ, pos, negsuc, _+ℤ_, _*ℤ_}
 
 -- the largest whole number that is at most z / d
 abbrev pub floor : ℤ → ℕ → ℤ
@@ -11,13 +11,7 @@ floor (negsuc n) d = negsuc (n / d)
 unfoldable pub nearest : ℤ → ℕ → ℤ
 nearest z d = floor (z *ℤ pos 2 +ℤ pos d) (2 * d)
 
--- z modulo d: what z is more than its floor's multiple of d, from 0 up to d
+-- z modulo d: z less d times the floor of z / d, so that it is at least 0 and less than d
 unfoldable pub modulo : ℤ → ℕ → ℕ
 modulo (pos n) d = n % d
 modulo (negsuc n) d = d - 1 - n % d
-
--- what can be rounded in a word of 64 bits: asked of callers, and no part of the rule
-pub record Roundable (z : ℤ) (d : ℕ) : Type 0 where
-  pub some : 0 < d
-  pub divisor-small : d < 2 ^ 61
-  pub numerator-small : natAbs z < 2 ^ 61

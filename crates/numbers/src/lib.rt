@@ -1,6 +1,7 @@
 ghost use mathlib.Core.Path.{_≡_};
 ghost use Prim.Native.Nat.{_<_};
-ghost use Rattle.numbers.specs.Rounding.{floor, nearest, Roundable};
+ghost use Rattle.numbers.specs.Rounding.{floor, nearest};
+ghost use Rattle.numbers.specs.Room.{Roundable};
 
 // The largest whole number that is at most z / divisor.
 pub fn floor_of(z: i64, divisor: u64) -> i64

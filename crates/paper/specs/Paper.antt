@@ -1,4 +1,4 @@
--- With what a printed answer refuses; 0 where it prints a year.
+-- The refusal that a printing function answers, or 0 if it refuses nothing.
 use mathlib.Core.List.{List}
 use Prim.Native.Nat.{ℕ}
 use Rattle.numbers.specs.Answer.{then, refusalIn}

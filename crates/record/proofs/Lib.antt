@@ -8,3 +8,4 @@ pub mod Steps
 pub mod CoveredFields
 pub mod RecordLaws
 pub mod Figures
+pub mod OneAnswer

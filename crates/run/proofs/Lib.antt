@@ -4,3 +4,4 @@ pub mod DateNumbers
 pub mod Lookups
 pub mod Refusals
 pub mod History
+pub mod OneAnswer

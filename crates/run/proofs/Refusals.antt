@@ -4,8 +4,8 @@ use mathlib.Core.Bool.{Bool, true, false, false≢true}
 use Prim.Native.Nat.{ℕ, _+_, _-_}
 use native.Mathlib.Omega.{arith}
 use lib.Dec.{ltb}
-use Rattle.numbers.specs.Answer.{Answer, given, refused, need}
-use Rattle.numbers.proofs.Answers.{Exactly, after, after-so, gives, refuses, refuses-so, passes, never, not-refused, fails}
+use Rattle.numbers.specs.Answer.{Answer, given, refused}
+use Rattle.numbers.proofs.Answers.{Exactly, after, after-so, gives, refuses, refuses-so, passes, never, not-refused}
 use Rattle.months.specs.Rules.{Rules}
 use Rattle.asked.specs.Asked.{isCalendar, rulesFor, isCovered, hasMonth, monthNamed}
 use Rattle.calendar.specs.declared.Date.{Date}
@@ -16,6 +16,7 @@ use Rattle.kept.specs.Runs.{runOf, noRun, canBeKept, isRun}
 use Rattle.kept.proofs.Examined.{is-kept}
 use Rattle.run.specs.Calls.{openOf, extendOf, dropOf, holdsYear, holdsDay, runDayOf, runDateOf}
 use Rattle.run.proofs.Lookups.{held-year-covered, held-day-covered}
+use Rattle.run.proofs.Steps.{its-calendar}
 
 -- ---- opening
 
@@ -83,9 +84,6 @@ module _ (run : Run) (y m : ℕ) (leap : Bool) (d : ℕ) where
   own-day = dayOf (run .calendar) y m leap d
 
   -- whose first two conditions hold
-  known : isRun run ≡ true → isCalendar (run .calendar) ≡ true
-  known is = is-kept run is .room .known
-
   covered : isRun run ≡ true → holdsYear run y ≡ true → isCovered rules y ≡ true
   covered is holds = held-year-covered run (is-kept run is) y holds
 
@@ -116,7 +114,7 @@ module _ (run : Run) (y m : ℕ) (leap : Bool) (d : ℕ) where
   of-held : {A B C : Type 0} → Exactly A ((isRun run ≡ true) × ((holdsYear run y ≡ true) × B)) → Exactly B ((isCalendar (run .calendar) ≡ true) × ((isCovered rules y ≡ true) × C)) → Exactly A ((isRun run ≡ true) × ((holdsYear run y ≡ true) × C))
   of-held {A} {B} {C} step own =
       record {
-        if = λ h. step .if (h .0, (h .1 .0, own .if (known (h .0), (covered (h .0) (h .1 .0), h .1 .1))));
+        if = λ h. step .if (h .0, (h .1 .0, own .if (its-calendar run (h .0), (covered (h .0) (h .1 .0), h .1 .1))));
         only-if = λ a. let h = step .only-if a in (h .0, (h .1 .0, own .only-if (h .1 .1) .1 .1));
       }
 

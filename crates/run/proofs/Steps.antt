@@ -44,7 +44,7 @@ asked-told c y k x e =
 module _ (run : Run) where
   module _ (is : isRun run ≡ true) where
     -- its calendar is known, so that the year after its last is covered or not
-    its-calendar : isCalendar (run .calendar) ≡ true
+    pub its-calendar : isCalendar (run .calendar) ≡ true
     its-calendar = is-kept run is .room .known
 
     -- so the test of both tells of the year alone

@@ -13,9 +13,11 @@ use Rattle.kept.specs.Runs.{runOf, isRun}
 
 -- ---- open at a year; extend by the next; drop the oldest
 
+-- the run of one year
 unfoldable pub openOf : ℕ → ℕ → Answer Run
 openOf c y = need (isCalendar c) 1 (need (isCovered (rulesFor c) y) 2 (given (runOf c y 1)))
 
+-- past the last covered year it is 2, even at 14 years
 unfoldable pub extendOf : Run → Answer Run
 extendOf run =
     let c : ℕ = run .calendar in
@@ -23,12 +25,13 @@ extendOf run =
     let years : ℕ = run .years in
     need (isRun run) 11 (need (isCovered (rulesFor c) (first + years)) 2 (need (ltb years 14) 9 (given (runOf c first (years + 1)))))
 
+-- a run of one year has none to drop
 unfoldable pub dropOf : Run → Answer Run
 dropOf run = need (isRun run) 11 (need (ltb 1 (run .years)) 10 (given (runOf (run .calendar) (run .«first_year» + 1) (run .years - 1))))
 
 -- ---- look up a day or date: among the run's years and days the calendar's own answer
 
--- refusal 2, "in a run: not held"
+-- else refusal 2, "in a run: not held"
 abbrev pub holdsYear : Run → ℕ → Bool
 holdsYear run y = leb (run .«first_year») y && ltb y (run .«first_year» + run .years)
 
@@ -40,7 +43,7 @@ dayInRun run y m leap d = need (holdsYear run y) 2 (dayOf (run .calendar) y m le
 unfoldable pub runDayOf : Run → ℕ → ℕ → Bool → ℕ → Answer ℕ
 runDayOf run y m leap d = need (isRun run) 11 (dayInRun run y m leap d)
 
--- refusal 5: "day outside [..] the run's"
+-- else refusal 5: "day outside [..] the run's"
 abbrev pub holdsDay : Run → ℕ → Bool
 holdsDay run n =
     let r : Rules = rulesFor (run .calendar) in

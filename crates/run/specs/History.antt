@@ -1,4 +1,4 @@
--- Calls on a run one after the other, and what the third demand says of the run after them.
+-- Calls on a run one after the other, and what is demanded of the run after them (docs/PROMISES.md, the third demand; its words are quoted).
 use mathlib.Core.Path.{_≡_}
 use mathlib.Core.Bool.{Bool, true, false, _&&_}
 use mathlib.Core.List.{List, [], _∷_}

@@ -12,7 +12,7 @@ pub use calendar::DateAnswer;
 pub use calendar::DayAnswer;
 pub use kept::Run;
 
-// The run that was asked for and 0, or the refusal's number and the run that was given, as it came.
+// The run that was asked for and 0, or the refusal's number and the run as it was given; a run of zeros where none was.
 pub struct RunAnswer {
     pub refusal: u8,
     pub run: Run,

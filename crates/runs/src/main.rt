@@ -20,6 +20,7 @@ fn print_line_end() {
     io::write_all(STDOUT_FILENO, b"\n");
 }
 
+// (By way of a parameter it is known that a number read from an array is below 2^32.)
 fn widened(number: u32) -> u64
     ensures { λ r. ⌜ r < 4294967296 ⌝ }
 {
@@ -116,41 +117,27 @@ fn print_openings() {
     print_opening(18_446_744_073_709_551_615, 18_446_744_073_709_551_615);
 }
 
-fn print_opened(calendar: u64, year: u64) -> Run {
-    let answer = run::open_run(calendar, year);
+fn printed(answer: RunAnswer) -> Run {
     print_answer(answer);
     print_line_end();
     answer.run
 }
 
-fn print_extended(run: Run) -> Run {
-    let answer = run::extend_run(run);
-    print_answer(answer);
-    print_line_end();
-    answer.run
-}
-
-fn print_shortened(run: Run) -> Run {
-    let answer = run::drop_oldest(run);
-    print_answer(answer);
-    print_line_end();
-    answer.run
-}
-
-fn print_extended_often(run: Run, times: usize) -> Run {
-    let mut longer = run;
-    for _ in 0..times {
-        longer = print_extended(longer);
+// A year more at the end, or one less at the beginning.
+fn print_moved(run: Run, extending: bool) -> Run {
+    if extending {
+        printed(run::extend_run(run))
+    } else {
+        printed(run::drop_oldest(run))
     }
-    longer
 }
 
-fn print_shortened_often(run: Run, times: usize) -> Run {
-    let mut shorter = run;
+fn print_moved_often(run: Run, extending: bool, times: usize) -> Run {
+    let mut moved = run;
     for _ in 0..times {
-        shorter = print_shortened(shorter);
+        moved = print_moved(moved, extending);
     }
-    shorter
+    moved
 }
 
 fn print_places(run: Run) {
@@ -197,21 +184,20 @@ fn print_months(run: Run) {
 
 // A run filled, looked through, moved on by a year, dropped to one year, and extended again.
 fn print_kept(calendar: u64, year: u64) {
-    let first = print_opened(calendar, year);
-    let full = print_extended_often(first, 15);
+    let first = printed(run::open_run(calendar, year));
+    let full = print_moved_often(first, true, 15);
     print_places(full);
     print_months(full);
-    let moved = print_extended(print_shortened(full));
-    let last = print_shortened_often(moved, 15);
-    print_extended_often(last, 3);
+    let moved = print_moved(print_moved(full, false), true);
+    let last = print_moved_often(moved, false, 15);
+    print_moved_often(last, true, 3);
 }
 
 // Runs that reach a calendar's last year, of fourteen years and of one.
 fn print_last_years() {
-    let first = print_opened(1, 1671);
-    print_extended_often(first, 15);
-    let last = print_opened(2, 697);
-    print_shortened(print_extended(last));
+    print_moved_often(printed(run::open_run(1, 1671)), true, 15);
+    let last = print_moved(printed(run::open_run(2, 697)), true);
+    print_moved(last, false);
 }
 
 fn print_damaged(number: u64, run: Run) {

@@ -10,7 +10,7 @@ use Rattle.numbers.specs.Difference.{Is}
 use Rattle.numbers.specs.Spans.{Takes}
 use Rattle.numbers.proofs.Difference.{is-pos, is-neg, is-add, is-mul, is-parts, is-one}
 use Rattle.numbers.proofs.Order.{le-is}
-use Rattle.numbers.proofs.Spans.{Growing}
+use Rattle.numbers.proofs.Spans.{Growing, growing}
 use Rattle.numbers.proofs.Tests.{everyTwo, at-each-two}
 use Rattle.units.specs.Units.{fenToByo, wholeDays}
 use Rattle.senmyo.specs.Means.{meanNewMoon, meanFullMoon, midTermDay, rainWater}
@@ -53,6 +53,9 @@ tested-to = ltb→lt _ _ tt
 
 pub term-takes : (j : ℕ) → Takes midTermDay j 30 31
 term-takes j = record { at-least = omega arith; at-most = omega arith }
+
+pub terms-grow : Growing midTermDay
+terms-grow = growing midTermDay 30 31 (omega arith) (omega arith) term-takes
 
 -- ---- of every month, by the bounds of the corrections
 

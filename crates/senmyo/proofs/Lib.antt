@@ -3,3 +3,4 @@ pub mod PhaseLaws
 pub mod Worked
 pub mod Lengths
 pub mod Figures
+pub mod OneAnswer

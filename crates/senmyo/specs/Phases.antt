@@ -15,7 +15,7 @@ use Rattle.moon.specs.Moon.{moonOf}
 unfoldable pub corrections : Byo → ℤ
 corrections mean = sunOf mean +ℤ moonOf (byoToAnomalySeconds mean)
 
--- the true new moon k: mean + Sun + Moon
+-- the true new moon k: mean + Sun + Moon (`whole` cuts nothing off: `new-moon-exact`)
 unfoldable pub newMoon : ℕ → Fen
 newMoon k = fen (whole (pos (meanNewMoon k .0) +ℤ corrections (fenToByo (meanNewMoon k))))
 

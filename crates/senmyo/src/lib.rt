@@ -2,10 +2,10 @@ use eclipse::Node;
 use eclipse::NodeSecond;
 pub use moon::moon_of;
 pub use sun::sun_of;
-use units::BYO_OF_DAY;
-use units::BYO_OF_FEN;
+use units::BYO_IN_DAY;
+use units::BYO_IN_FEN;
 use units::Byo;
-use units::FEN_OF_DAY;
+use units::FEN_IN_DAY;
 use units::Fen;
 ghost use mathlib.Core.Path.{_≡_};
 ghost use Prim.Native.Nat.{_<_, _^_};
@@ -17,13 +17,13 @@ ghost use Rattle.senmyo.specs.FullMoons.{nodePlaceAt, nodeAt};
 ghost use Rattle.senmyo.specs.Room.{meanMonth, Movable};
 
 // From a mid-term to the next, in byo: two terms of 127,835 fen 5 byo.
-const MID_TERM: u64 = 2 * (127835 * BYO_OF_FEN + 5);
+const MID_TERM: u64 = 2 * (127835 * BYO_IN_FEN + 5);
 
 // From a mean new moon to the next, in fen.
 const MONTH: u64 = 248057;
 
 // From a mean new moon to the mean full moon, in byo: 124,028 1/2 fen.
-const HALF_MONTH: u64 = 124028 * BYO_OF_FEN + 4;
+const HALF_MONTH: u64 = 124028 * BYO_IN_FEN + 4;
 
 // Mid-term `number`, of which the first stands at the start of the count.
 pub fn mid_term(number: u32) -> Byo
@@ -43,7 +43,7 @@ pub fn mid_term_day(number: u32) -> u64
 pub fn mid_term_by(day: u32) -> u32
     ensures { λ r. ⌜ Holds midTermDay r day ⌝ }
 {
-    ((BYO_OF_DAY * (day as u64 + 1) - 1) / MID_TERM) as u32
+    ((BYO_IN_DAY * (day as u64 + 1) - 1) / MID_TERM) as u32
 }
 
 // The number of the Rain Water of a year: 12 mid-terms for each accumulated year, and two from the solstice on.
@@ -64,7 +64,7 @@ pub fn mean_new_moon(number: u32) -> Fen
 pub fn mean_month(day: u32) -> u32
     ensures { λ r. ⌜ r ≡ meanMonth day ⌝ }
 {
-    (FEN_OF_DAY * (day as u64) / MONTH) as u32
+    (FEN_IN_DAY * (day as u64) / MONTH) as u32
 }
 
 // The mean full moon after new moon `number`.
@@ -79,7 +79,7 @@ fn moved(moment: Byo, correction: i64) -> Byo
     requires { ⌜ Movable moment correction ⌝ }
     ensures { λ r. ⌜ pos (r .0) ≡ pos (moment .0) +ℤ correction *ℤ pos 8 ⌝ }
 {
-    Byo((moment.0 as i64 + correction * (BYO_OF_FEN as i64)) as u64)
+    Byo((moment.0 as i64 + correction * (BYO_IN_FEN as i64)) as u64)
 }
 
 // A mean moment with both corrections, which are both taken at it.

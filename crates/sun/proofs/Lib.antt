@@ -1,3 +1,4 @@
 pub mod Terms
 pub mod Sizes
 pub mod Bounds
+pub mod OneAnswer

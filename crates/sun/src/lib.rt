@@ -1,5 +1,5 @@
-use units::BYO_OF_DAY;
-use units::BYO_OF_FEN;
+use units::BYO_IN_DAY;
+use units::BYO_IN_FEN;
 use units::Byo;
 use units::Fen;
 ghost use mathlib.Core.Path.{_≡_};
@@ -26,7 +26,7 @@ pub struct Place {
 }
 
 // From a solstice to the next, in byo.
-const YEAR: u64 = 3068055 * BYO_OF_FEN;
+const YEAR: u64 = 3068055 * BYO_IN_FEN;
 
 // The 24 true terms from the solstice (003, Tables 1 and 2).
 const ROWS: [SunRow; 24] = [
@@ -68,7 +68,7 @@ fn true_term(number: usize) -> Term
     ensures { λ r. ⌜ r ≡ termOf (getD sunRows number noRow) ⌝ }
 {
     let row = row_of(number);
-    let span = row.0 * BYO_OF_DAY + units::fen_to_byo(Fen(row.1)).0 + row.2;
+    let span = row.0 * BYO_IN_DAY + units::fen_to_byo(Fen(row.1)).0 + row.2;
     Term {
         span: Byo(span),
         rate: row.3,
@@ -122,9 +122,9 @@ pub fn sun_of(at: Byo) -> i64
     ensures { λ r. ⌜ r ≡ sunOf at ⌝ }
 {
     let place = place_of(Byo(at.0 % YEAR));
-    let days = place.into.0 / BYO_OF_DAY;
-    let rest = place.into.0 % BYO_OF_DAY;
-    let share = after_days(place.term, days) * (BYO_OF_DAY as i64)
+    let days = place.into.0 / BYO_IN_DAY;
+    let rest = place.into.0 % BYO_IN_DAY;
+    let share = after_days(place.term, days) * (BYO_IN_DAY as i64)
         + on_day(place.term, days) * (rest as i64);
-    numbers::nearest_of(share, 10000 * BYO_OF_DAY)
+    numbers::nearest_of(share, 10000 * BYO_IN_DAY)
 }

@@ -3,11 +3,11 @@ ghost use Prim.Native.Nat.{_*_, _<_, _^_};
 ghost use Rattle.units.specs.Units.{fenToByo, byoToFen, byoToAnomalySeconds, wholeDays, fenOfDay};
 
 // A day is 8,400 fen, a fen 8 byo.
-pub const FEN_OF_DAY: u64 = 8400;
+pub const FEN_IN_DAY: u64 = 8400;
 
-pub const BYO_OF_FEN: u64 = 8;
+pub const BYO_IN_FEN: u64 = 8;
 
-pub const BYO_OF_DAY: u64 = FEN_OF_DAY * BYO_OF_FEN;
+pub const BYO_IN_DAY: u64 = FEN_IN_DAY * BYO_IN_FEN;
 
 // 1/8,400 of a day.
 pub struct Fen(pub u64);
@@ -18,36 +18,36 @@ pub struct Byo(pub u64);
 // 1/100 fen.
 pub struct AnomalySecond(pub u64);
 
-pub fn fen_to_byo(f: Fen) -> Byo
-    requires { ⌜ f .0 * 8 < 2 ^ 64 ⌝ }
-    ensures { λ r. ⌜ r ≡ fenToByo f ⌝ }
+pub fn fen_to_byo(moment: Fen) -> Byo
+    requires { ⌜ moment .0 * 8 < 2 ^ 64 ⌝ }
+    ensures { λ r. ⌜ r ≡ fenToByo moment ⌝ }
 {
-    Byo(f.0 * BYO_OF_FEN)
+    Byo(moment.0 * BYO_IN_FEN)
 }
 
 // The whole fen: what is left of one is dropped.
-pub fn byo_to_fen(b: Byo) -> Fen
-    ensures { λ r. ⌜ r ≡ byoToFen b ⌝ }
+pub fn byo_to_fen(moment: Byo) -> Fen
+    ensures { λ r. ⌜ r ≡ byoToFen moment ⌝ }
 {
-    Fen(b.0 / BYO_OF_FEN)
+    Fen(moment.0 / BYO_IN_FEN)
 }
 
 // The whole anomaly seconds: an odd byo's half is dropped.
-pub fn byo_to_anomaly_seconds(b: Byo) -> AnomalySecond
-    requires { ⌜ b .0 * 100 < 2 ^ 64 ⌝ }
-    ensures { λ r. ⌜ r ≡ byoToAnomalySeconds b ⌝ }
+pub fn byo_to_anomaly_seconds(moment: Byo) -> AnomalySecond
+    requires { ⌜ moment .0 * 100 < 2 ^ 64 ⌝ }
+    ensures { λ r. ⌜ r ≡ byoToAnomalySeconds moment ⌝ }
 {
-    AnomalySecond(b.0 * 100 / BYO_OF_FEN)
+    AnomalySecond(moment.0 * 100 / BYO_IN_FEN)
 }
 
-pub fn whole_days(f: Fen) -> u64
-    ensures { λ r. ⌜ r ≡ wholeDays f ⌝ }
+pub fn whole_days(moment: Fen) -> u64
+    ensures { λ r. ⌜ r ≡ wholeDays moment ⌝ }
 {
-    f.0 / FEN_OF_DAY
+    moment.0 / FEN_IN_DAY
 }
 
-pub fn fen_of_day(f: Fen) -> Fen
-    ensures { λ r. ⌜ r ≡ fenOfDay f ⌝ }
+pub fn fen_of_day(moment: Fen) -> Fen
+    ensures { λ r. ⌜ r ≡ fenOfDay moment ⌝ }
 {
-    Fen(f.0 % FEN_OF_DAY)
+    Fen(moment.0 % FEN_IN_DAY)
 }

@@ -1,5 +1,5 @@
 -- `calendar::year_in` meets its contract: the months from that of the Rain Water to the one before the next year's are listed.
-use mathlib.Core.Path.{_≡_, refl}
+use mathlib.Core.Path.{_≡_, refl, ap, _∙_}
 use Prim.Native.Nat.{_+_}
 use native.Mathlib.Omega.{arith}
 use borrow.Author.Needs.{needs}
@@ -33,8 +33,8 @@ found c =
     let r = rulesOf (at .calendar) in
     let covered : CoveredYear r (at .year) = search needs in
     record {
-      first = rw (first-with r (steady (at .calendar)) (at .year)) at (c .before .month-with .ensures);
-      next = rw (next-with r (steady (at .calendar)) (at .year)) at (c .month-with2 .ensures);
+      first = c .before .month-with .ensures ∙ ap (spanned r) (first-with r (steady (at .calendar)) (at .year));
+      next = c .month-with2 .ensures ∙ ap (spanned r) (next-with r (steady (at .calendar)) (at .year));
       covered = covered;
       room = year-room (at .calendar) (at .year) covered;
     }

@@ -1,23 +1,23 @@
--- `eclipse::distance_of` meets its contract: it takes the lesser of the two and rounds by adding half a fen.
+-- `eclipse::distance_of` meets its contract: adding half a fen rounds the lesser of the two.
+use mathlib.Core.Path.{ap, _∙_}
+use Prim.Native.Nat.{ℕ, _+_, _/_}
 use borrow.Author.Needs.{needs}
-use Rattle.eclipse.proofs.NodeLaws.{distance-near, distance-far}
+use Rattle.units.specs.Units.{fen}
+use Rattle.eclipse.proofs.NodeLaws.{distance-is}
 use Rattle.eclipse.proofs.distance_of.Statement.{statement}
 use Rattle.eclipse.proofs.distance_of.Tie as tie
 
-sub-rest : tie.Need-sub-rest
-sub-rest c = search needs
+sub-lesser : tie.Need-sub-lesser
+sub-lesser c = search needs
 
-add-t6 : tie.Need-add-t6
-add-t6 c = search needs
+lesser-requires : tie.Need-lesser-requires
+lesser-requires c κs = search needs
 
-add-t9 : tie.Need-add-t9
-add-t9 c = search needs
+add-t4 : tie.Need-add-t4
+add-t4 c = search needs
 
 returns : tie.Need-returns
-returns c = distance-near _ (c .before .if1 .taken)
-
-returns-2 : tie.Need-returns-2
-returns-2 c = distance-far _ (c .if1 .left)
+returns c = ap (λ (n : ℕ). fen ((n + 5000) / 10000)) (c .lesser .ensures) ∙ distance-is _
 
 pub distance-of-spec : {M : Type 1} → statement M
-distance-of-spec = tie.close (tie.spec sub-rest add-t6 add-t9 returns returns-2)
+distance-of-spec = tie.close (tie.spec sub-lesser lesser-requires add-t4 returns)

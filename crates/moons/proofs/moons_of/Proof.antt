@@ -9,7 +9,8 @@ use Rattle.asked.specs.Answers.{monthMeans}
 use Rattle.asked.proofs.Covered.{asked-span}
 use Rattle.moons.specs.Instants.{moonsIn, moonsOf}
 use Rattle.moons.proofs.Steps.{of-refused, of-found}
-use Rattle.moons.proofs.Moments.{new-dated, full-dated}
+use Rattle.moons.specs.declared.Phase.the-variants.{New, Full}
+use Rattle.moons.proofs.Moments.{moon-dated}
 use Rattle.moons.proofs.moons_of.Statement.{statement}
 use Rattle.moons.proofs.moons_of.Tie as tie
 
@@ -43,13 +44,13 @@ new-moon-requires : tie.Need-new-moon-requires
 new-moon-requires c κs = search needs
 
 instant-of-requires : tie.Need-instant-of-requires
-instant-of-requires c κs = rw (c .new-moon .ensures) (new-dated _ _ (covered (c .before)))
+instant-of-requires c κs = rw (c .new-moon .ensures) (moon-dated _ _ (covered (c .before)) New)
 
 full-moon-requires : tie.Need-full-moon-requires
 full-moon-requires c κs = search needs
 
 instant-of-requires-2 : tie.Need-instant-of-requires-2
-instant-of-requires-2 c κs = rw (c .full-moon .ensures) (full-dated _ _ (covered (c .before .before .before)))
+instant-of-requires-2 c κs = rw (c .full-moon .ensures) (moon-dated _ _ (covered (c .before .before .before)) Full)
 
 returns-2 : tie.Need-returns-2
 unfolding moonsOf

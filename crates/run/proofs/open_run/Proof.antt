@@ -2,7 +2,7 @@
 use mathlib.Core.Path.{_≡_, refl, sym, ap, _∙_}
 use native.Mathlib.Omega.{arith}
 use borrow.Author.Needs.{needs}
-use Rattle.numbers.specs.Answer.{given, refusalIn}
+use Rattle.numbers.specs.Answer.{refusalIn}
 use Rattle.asked.specs.Answers.{yearMeans}
 use Rattle.asked.specs.Asked.{rulesFor}
 use Rattle.asked.proofs.Covered.{covered-year-told}

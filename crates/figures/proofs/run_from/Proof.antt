@@ -1,20 +1,23 @@
--- `runs::print_extended_often` meets its contract: it stops after so many times.
+-- `figures::run_from` stops after so many years.
 use Prim.Native.Nat.{_-_, _≤_}
 use borrow.Author.Needs.{needs}
-use Rattle.runs.proofs.print_extended_often.Statement.{statement}
-use Rattle.runs.proofs.print_extended_often.Tie as tie
+use Rattle.figures.proofs.run_from.Statement.{statement}
+use Rattle.figures.proofs.run_from.Tie as tie
 
 abbrev Inv-loop : tie.InvT-loop
-Inv-loop times longer₀ counter₀ longer counter = counter ≤ times
+Inv-loop year more longer₀ counter₀ longer counter = counter ≤ more
 
 abbrev μ-loop : tie.MeasureT-loop
-μ-loop times longer₀ counter₀ longer counter = times - counter
+μ-loop year more longer₀ counter₀ longer counter = more - counter
+
+open-run-requires : tie.Need-open-run-requires Inv-loop μ-loop
+open-run-requires c κs = search needs
 
 loop-holds : tie.Need-loop-holds Inv-loop μ-loop
 loop-holds c = search needs
 
-print-extended-requires : tie.Need-print-extended-requires Inv-loop μ-loop
-print-extended-requires c κs = search needs
+extend-run-requires : tie.Need-extend-run-requires Inv-loop μ-loop
+extend-run-requires c κs = search needs
 
 add-counter : tie.Need-add-counter Inv-loop μ-loop
 add-counter c = search needs
@@ -28,14 +31,15 @@ loop-again c = search needs
 returns : tie.Need-returns Inv-loop μ-loop
 returns c = search needs
 
-pub print-extended-often-spec : {M : Type 1} → statement M
-print-extended-often-spec =
+pub run-from-spec : {M : Type 1} → statement M
+run-from-spec =
     tie.close
     (tie.spec
     Inv-loop
     μ-loop
+    open-run-requires
     loop-holds
-    print-extended-requires
+    extend-run-requires
     add-counter
     loop-less
     loop-again
