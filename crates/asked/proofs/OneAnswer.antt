@@ -1,7 +1,9 @@
 -- Two answers that mean the same are one, so that a contract that says what an answer means fixes it.
 use mathlib.Core.Path.{_≡_, ap}
 use Prim.Native.Nat.{ℕ}
+use Rattle.numbers.specs.OneResult.{OneResult}
 use Rattle.numbers.proofs.Answers.{one-given}
+use Rattle.numbers.proofs.OneResult.{one}
 use Rattle.months.specs.declared.Calendar.{Calendar}
 use Rattle.months.specs.declared.Span.{Span}
 use Rattle.asked.specs.declared.CalendarAsked.{CalendarAsked}
@@ -11,8 +13,6 @@ use Rattle.asked.specs.declared.YearAsked.the-variants as year-asked
 use Rattle.asked.specs.declared.MonthAsked.{MonthAsked}
 use Rattle.asked.specs.declared.MonthAsked.the-variants as month-asked
 use Rattle.asked.specs.Answers.{calendarMeans, yearMeans, monthMeans}
-use Rattle.numbers.specs.OneResult.{OneResult}
-use Rattle.numbers.proofs.OneResult.{one}
 use Rattle.asked.proofs.asked_calendar.Reads as asked-calendar
 use Rattle.asked.proofs.calendar_refusal.Reads as calendar-refusal
 use Rattle.asked.proofs.asked_year.Reads as asked-year

@@ -1,14 +1,12 @@
 -- Two answers that mean the same are one, so that a contract that says what an answer means fixes it.
-use mathlib.Core.Path.{_≡_, refl}
-use Rattle.numbers.specs.Answer.{Answer, given, refused, refusalIn}
-use Rattle.calendar.specs.declared.Year.{Year}
+use mathlib.Core.Path.{_≡_}
+use Rattle.numbers.specs.OneResult.{OneResult}
+use Rattle.numbers.proofs.OneResult.{one}
 use Rattle.calendar.specs.declared.DayAnswer.{DayAnswer}
 use Rattle.calendar.specs.declared.DayAnswer.the-variants as day-answer
 use Rattle.calendar.specs.declared.DateAnswer.{DateAnswer}
 use Rattle.calendar.specs.declared.DateAnswer.the-variants as date-answer
-use Rattle.calendar.specs.Answers.{dayMeans, dateMeans, yearAnswer}
-use Rattle.numbers.specs.OneResult.{OneResult}
-use Rattle.numbers.proofs.OneResult.{one}
+use Rattle.calendar.specs.Answers.{dayMeans, dateMeans}
 use Rattle.calendar.proofs.day_of.Reads as day-of
 use Rattle.calendar.proofs.date_of.Reads as date-of
 use Rattle.calendar.proofs.cycle_of.Reads as cycle-of
@@ -25,11 +23,6 @@ one-date (date-answer.Date a) (date-answer.Date b) h = cc
 one-date (date-answer.Date a) (date-answer.Refused n) h = cc
 one-date (date-answer.Refused n) (date-answer.Date b) h = cc
 one-date (date-answer.Refused n) (date-answer.Refused m) h = cc
-
--- a year's answer holds its refusal's number, or 0
-pub year-number : (a : Answer Year) → yearAnswer a .refusal ≡ refusalIn a
-year-number (given y) = refl
-year-number (refused n) = refl
 
 -- ---- what each public function promises leaves one answer
 

@@ -1,15 +1,21 @@
 -- When each call gives its answer and when it refuses, exactly (01, "Refusal numbers"): the first condition that fails names the refusal.
-use mathlib.Core.Path.{_≡_}
+use mathlib.Core.Path.{_≡_, refl}
 use mathlib.Core.Bool.{Bool, true, false}
 use Prim.Native.Nat.{ℕ, _+_}
 use native.Mathlib.Omega.{arith}
-use Rattle.numbers.specs.Answer.{given, refused}
+use Rattle.numbers.specs.Answer.{Answer, given, refused, refusalIn}
 use Rattle.numbers.proofs.Answers.{Exactly, after, gives, refuses, passes, never, not-refused}
 use Rattle.asked.specs.Asked.{isCalendar, rulesFor, isCovered, hasMonth, monthNamed}
 use Rattle.calendar.specs.declared.Date.{Date}
 use Rattle.calendar.specs.declared.Year.{Year}
 use Rattle.calendar.specs.Dates.{hasDay, dayIn, dayOf, isCoveredDay, dateIn, dateOf}
 use Rattle.calendar.specs.Years.{yearIn, yearOf}
+use Rattle.calendar.specs.Answers.{yearAnswer}
+
+-- a year's answer holds its refusal's number, or 0
+pub year-number : (a : Answer Year) → yearAnswer a .refusal ≡ refusalIn a
+year-number (given y) = refl
+year-number (refused n) = refl
 
 -- ---- a date's day
 

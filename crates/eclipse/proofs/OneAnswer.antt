@@ -1,12 +1,12 @@
 -- Two grades that mean the same are one, so that a contract that says what a grade means fixes it.
 use mathlib.Core.Path.{_≡_, refl, sym, ap, _∙_}
+use Rattle.numbers.specs.OneResult.{OneResult}
+use Rattle.numbers.proofs.OneResult.{one}
 use Rattle.eclipse.specs.declared.Share.{Share}
 use Rattle.eclipse.specs.declared.Grade.{Grade}
 use Rattle.eclipse.specs.declared.Grade.the-variants.{None, Total, Partial}
 use Rattle.eclipse.specs.Eclipse.{none, total, partial, Graded}
 use Rattle.eclipse.specs.Answers.{gradeMeans}
-use Rattle.numbers.specs.OneResult.{OneResult}
-use Rattle.numbers.proofs.OneResult.{one}
 use Rattle.eclipse.proofs.node_place.Reads as node-place
 use Rattle.eclipse.proofs.node_of.Reads as node-of
 use Rattle.eclipse.proofs.grade_of.Reads as grade-of

@@ -1,7 +1,6 @@
 // Prints the figures and edges of the rules but for the eight worked cases, which are proved (`worked`), each worked out by the calls.
 // A line has what it is about, a colon, and the numbers.
 ghost use Prim.Native.Nat.{_≤_};
-ghost use lib.ListN.{length};
 use calendar::DateAnswer;
 use calendar::DayAnswer;
 use calendar::EclipseAnswer;
@@ -183,20 +182,23 @@ fn no_extent() -> Extent {
     }
 }
 
-// The Sun's correction at every 25 fen of a year.
-fn extent_of_sun() -> Extent {
-    let mut extent = no_extent();
-    for place in 0..122_723u64 {
-        extent = extended(extent, senmyo::sun_of(Byo(200 * place)));
+// The Sun's correction at every 25 fen, or the Moon's at every 5.
+fn correction_at(of_sun: bool, place: u64) -> i64
+    requires { ⌜ place ≤ 1000000 ⌝ }
+{
+    if of_sun {
+        senmyo::sun_of(Byo(200 * place))
+    } else {
+        senmyo::moon_of(AnomalySecond(500 * place))
     }
-    extent
 }
 
-// The Moon's at every 5 fen of its period.
-fn extent_of_moon() -> Extent {
+fn extent_of(of_sun: bool, moments: u64) -> Extent
+    requires { ⌜ moments ≤ 1000000 ⌝ }
+{
     let mut extent = no_extent();
-    for place in 0..46_292u64 {
-        extent = extended(extent, senmyo::moon_of(AnomalySecond(500 * place)));
+    for place in 0..moments {
+        extent = extended(extent, correction_at(of_sun, place));
     }
     extent
 }
@@ -213,9 +215,9 @@ fn print_extents() {
     print_text(
         b"Sun, least, most, all that it adds and all that it takes off, every 25 fen of a year:",
     );
-    print_extent(extent_of_sun());
+    print_extent(extent_of(true, 122_723));
     print_text(b"Moon, the same, every 5 fen of its period:");
-    print_extent(extent_of_moon());
+    print_extent(extent_of(false, 46_292));
 }
 
 // Row 7 at its start, at 7465 fen and at its end; then the starts of lower rows 11 to 14, half an anomaly second late.
@@ -254,8 +256,8 @@ fn print_date(answer: DateAnswer) {
     }
 }
 
-// The days of the solstices before 937 and 1575, each in the month before the one that the last mean new moon opens; of mid-term 8 of 833, some hours
-// before its month's new moon; and the first of 445's leap month, which has a mid-term by the count of 19 years.
+// The days of the solstices before 937 and 1575, each in the month before the one that the last mean new moon opens; of mid-term 8 of 833, which
+// falls before its month's new moon; and the first of 445's leap month, which has a mid-term by the count of 19 years.
 fn print_errors() {
     print_text(b"dates of days 2063282, 2296308, 2025571 and, in Genka, 1883766:");
     print_date(calendar::date_of(1, 2_063_282));

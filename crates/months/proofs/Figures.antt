@@ -1,4 +1,4 @@
--- The definitions at 01's worked figures: the years 1522 and 643, and where the covered years begin and end.
+-- The definitions at 01's worked figures: months known by a test, where the covered years begin and end, and where a copyist goes wrong.
 use mathlib.Core.Path.{_≡_, refl, sym}
 use mathlib.Core.Bool.{Bool, true, _&&_}
 use Prim.Native.Nat.{ℕ, _+_, _*_, _/_}

@@ -32,7 +32,7 @@ pub eclipse-1522 : eclipseOf 1 1522 2 false ≡
 unfolding eclipseOf rulesOf dayAt gradeOf
 eclipse-1522 = rw (month-with senmyo senmyo-steady 87454579 (senmyo .rainWater 1522 + 1) tt, moon-1522)
 
--- Genka gives 13 whatever the year and the month, and no other calendar does
+-- Genka gives 13, also with a year and a month that are none
 genka-643 : eclipseOf 2 643 5 false ≡ refused 13
 unfolding eclipseOf
 genka-643 = refl

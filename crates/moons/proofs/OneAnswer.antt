@@ -1,6 +1,8 @@
 -- Two answers that mean the same are one, so that a contract that says what an answer means fixes it.
 use mathlib.Core.Path.{_≡_, ap}
+use Rattle.numbers.specs.OneResult.{OneResult}
 use Rattle.numbers.proofs.Answers.{one-given}
+use Rattle.numbers.proofs.OneResult.{one}
 use Rattle.eclipse.specs.Eclipse.{Graded}
 use Rattle.eclipse.specs.Answers.{gradeMeans}
 use Rattle.eclipse.proofs.OneAnswer.{one-grade}
@@ -12,8 +14,6 @@ use Rattle.moons.specs.declared.Instant.the-variants as instant
 use Rattle.moons.specs.declared.MoonsAnswer.{MoonsAnswer}
 use Rattle.moons.specs.declared.MoonsAnswer.the-variants as moons-answer
 use Rattle.moons.specs.Answers.{eclipseMeans, instantMeans, moonsMeans}
-use Rattle.numbers.specs.OneResult.{OneResult}
-use Rattle.numbers.proofs.OneResult.{one}
 use Rattle.moons.proofs.eclipse_of.Reads as eclipse-of
 use Rattle.moons.proofs.new_moon_of.Reads as new-moon-of
 use Rattle.moons.proofs.full_moon_of.Reads as full-moon-of

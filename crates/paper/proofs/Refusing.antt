@@ -6,7 +6,7 @@ use Rattle.numbers.specs.Answer.{given, refused, then, refusalIn}
 use Rattle.calendar.specs.declared.YearAnswer.{YearAnswer}
 use Rattle.calendar.specs.Years.{yearOf}
 use Rattle.calendar.specs.Answers.{yearAnswer}
-use Rattle.calendar.proofs.OneAnswer.{year-number}
+use Rattle.calendar.proofs.Refusals.{year-number}
 use Rattle.line.specs.declared.Line.{Line}
 use Rattle.line.specs.Line.{lineOf}
 use Rattle.paper.specs.Paper.{yearRefusal, answerRefusal}

@@ -13,7 +13,7 @@ use Rattle.asked.specs.Asked.{isCalendar, rulesFor, isCovered}
 use Rattle.calendar.specs.declared.YearAnswer.{YearAnswer}
 use Rattle.calendar.specs.Years.{yearIn, yearOf}
 use Rattle.calendar.specs.Answers.{yearAnswer}
-use Rattle.calendar.proofs.OneAnswer.{year-number}
+use Rattle.calendar.proofs.Refusals.{year-number}
 use Rattle.record.specs.declared.Fields.{Fields}
 use Rattle.record.specs.declared.RecordAnswer.{RecordAnswer}
 use Rattle.record.specs.Tagged.{fieldBytes, numbersOf, tagsAt, numbersAt, same}

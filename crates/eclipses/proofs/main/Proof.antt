@@ -1,4 +1,4 @@
--- `eclipses::main` meets its contract: it stops before the year 3000.
+-- `eclipses::main` ends: it stops before the year 3000.
 use Prim.Native.Nat.{_-_, _≤_}
 use borrow.Author.Needs.{needs}
 use Rattle.eclipses.proofs.main.Statement.{statement}

@@ -1,4 +1,4 @@
--- `figures::print_bytes` stops after the last byte.
+-- `figures::print_bytes` ends: it stops after the last byte.
 use Prim.Native.Nat.{_-_, _≤_}
 use borrow.Author.Needs.{needs}
 use Rattle.figures.proofs.print_bytes.Statement.{statement}

@@ -1,4 +1,4 @@
--- `figures::run_from` stops after so many years.
+-- `figures::run_from` ends: it stops after so many years.
 use Prim.Native.Nat.{_-_, _≤_}
 use borrow.Author.Needs.{needs}
 use Rattle.figures.proofs.run_from.Statement.{statement}

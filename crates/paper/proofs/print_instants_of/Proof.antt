@@ -1,4 +1,4 @@
--- `paper::print_instants_of` meets its contract: instants that are given are numbers, whose bytes can be told.
+-- `paper::print_instants_of` prints numbers only: instants that are given are no nan, so that their bytes can be told.
 use mathlib.Core.Path.{sym, ap, _∙_}
 use borrow.Author.Needs.{needs}
 use Rattle.moons.specs.Answers.{moonsMeans}

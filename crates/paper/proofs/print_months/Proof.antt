@@ -1,4 +1,4 @@
--- `paper::print_months` meets its contract: it stops after the thirteenth place.
+-- `paper::print_months` ends: it stops after the thirteenth place.
 use Prim.Native.Nat.{_-_, _≤_}
 use borrow.Author.Needs.{needs}
 use Rattle.paper.proofs.print_months.Statement.{statement}

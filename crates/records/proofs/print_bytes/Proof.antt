@@ -1,4 +1,4 @@
--- `records::print_bytes` meets its contract: it stops behind the last byte.
+-- `records::print_bytes` ends: it stops after the last byte.
 use Prim.Native.Nat.{_-_, _≤_}
 use borrow.Author.Needs.{needs}
 use Rattle.records.proofs.print_bytes.Statement.{statement}

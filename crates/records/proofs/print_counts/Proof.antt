@@ -1,4 +1,4 @@
--- `records::print_counts` meets its contract: it stops after 32.
+-- `records::print_counts` ends: it stops after 32.
 use Prim.Native.Nat.{_-_, _≤_}
 use borrow.Author.Needs.{needs}
 use Rattle.records.proofs.print_counts.Statement.{statement}

@@ -1,4 +1,4 @@
--- `records::print_each_flipped` meets its contract: it stops after the last place.
+-- `records::print_each_flipped` ends: it stops after the last place.
 use Prim.Native.Nat.{_-_, _≤_}
 use borrow.Author.Needs.{needs}
 use Rattle.records.proofs.print_each_flipped.Statement.{statement}

@@ -1,4 +1,4 @@
--- `records::print_records` meets its contract: it stops before the year 3000.
+-- `records::print_records` ends: it stops before the year 3000.
 use Prim.Native.Nat.{_-_, _≤_}
 use borrow.Author.Needs.{needs}
 use Rattle.records.proofs.print_records.Statement.{statement}

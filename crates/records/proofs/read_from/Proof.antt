@@ -1,4 +1,4 @@
--- `records::read_from` meets its contract: the first bytes are as many as are asked for.
+-- `records::read_from` can be called as it asks: the first bytes are as many as are asked for.
 use mathlib.Core.Path.{sym}
 use Prim.Native.Nat.{_≤_}
 use lib.ListN.{length}

@@ -1,4 +1,4 @@
--- `records::write_into` meets its contract: the first bytes are as many as are asked for.
+-- `records::write_into` can be called as it asks: the first bytes are as many as are asked for.
 use mathlib.Core.Path.{sym}
 use Prim.Native.Nat.{_≤_}
 use lib.ListN.{length}

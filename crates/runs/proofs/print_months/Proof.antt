@@ -1,4 +1,4 @@
--- `runs::print_months` meets its contract: it stops behind the last place.
+-- `runs::print_months` ends: it stops after the last place.
 use Prim.Native.Nat.{_-_, _≤_}
 use borrow.Author.Needs.{needs}
 use Rattle.runs.proofs.print_months.Statement.{statement}

@@ -1,4 +1,4 @@
--- `runs::print_moved_often` meets its contract: it stops after so many times.
+-- `runs::print_moved_often` ends: it stops after so many times.
 use Prim.Native.Nat.{_-_, _≤_}
 use borrow.Author.Needs.{needs}
 use Rattle.runs.proofs.print_moved_often.Statement.{statement}

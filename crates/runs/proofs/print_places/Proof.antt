@@ -1,4 +1,4 @@
--- `runs::print_places` meets its contract: it stops behind the last place.
+-- `runs::print_places` ends: it stops after the last place.
 use Prim.Native.Nat.{_-_, _≤_}
 use borrow.Author.Needs.{needs}
 use Rattle.runs.proofs.print_places.Statement.{statement}

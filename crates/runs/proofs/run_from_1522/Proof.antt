@@ -1,4 +1,4 @@
--- `runs::run_from_1522` meets its contract: it stops after so many years.
+-- `runs::run_from_1522` ends: it stops after so many years.
 use Prim.Native.Nat.{_-_, _≤_}
 use borrow.Author.Needs.{needs}
 use Rattle.runs.proofs.run_from_1522.Statement.{statement}

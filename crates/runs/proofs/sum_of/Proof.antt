@@ -1,4 +1,4 @@
--- `runs::sum_of` meets its contract: each number is below 2^32, so that the sum fits its word.
+-- `runs::sum_of` ends, and its sum fits its word: each number is below 2^32.
 use Prim.Native.Nat.{_-_, _*_, _≤_}
 use borrow.Author.Needs.{needs}
 use Rattle.runs.proofs.sum_of.Statement.{statement}

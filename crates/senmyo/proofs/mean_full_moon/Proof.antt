@@ -1,4 +1,4 @@
--- `senmyo::mean_full_moon` meets its contract: it adds 124,028 1/2 fen, to the mean new moon.
+-- `senmyo::mean_full_moon` meets its contract: it adds 124,028 1/2 fen to the mean new moon.
 use native.Mathlib.Omega.{arith}
 use borrow.Author.Needs.{needs}
 use Rattle.senmyo.proofs.mean_full_moon.Statement.{statement}

@@ -1,14 +1,14 @@
--- `figures::extent_of_moon` ends after so many moments.
+-- `figures::extent_of` ends: it stops after so many moments.
 use Prim.Native.Nat.{_-_, _≤_}
 use borrow.Author.Needs.{needs}
-use Rattle.figures.proofs.extent_of_moon.Statement.{statement}
-use Rattle.figures.proofs.extent_of_moon.Tie as tie
+use Rattle.figures.proofs.extent_of.Statement.{statement}
+use Rattle.figures.proofs.extent_of.Tie as tie
 
 abbrev Inv-loop : tie.InvT-loop
-Inv-loop extent₀ place₀ extent place = place ≤ 46292
+Inv-loop of-sun moments extent₀ place₀ extent place = place ≤ moments
 
 abbrev μ-loop : tie.MeasureT-loop
-μ-loop extent₀ place₀ extent place = 46292 - place
+μ-loop of-sun moments extent₀ place₀ extent place = moments - place
 
 no-extent-requires : tie.Need-no-extent-requires Inv-loop μ-loop
 no-extent-requires c κs = search needs
@@ -16,11 +16,8 @@ no-extent-requires c κs = search needs
 loop-holds : tie.Need-loop-holds Inv-loop μ-loop
 loop-holds c = search needs
 
-mul-t5 : tie.Need-mul-t5 Inv-loop μ-loop
-mul-t5 c = search needs
-
-moon-of-requires : tie.Need-moon-of-requires Inv-loop μ-loop
-moon-of-requires c κs = search needs
+correction-at-requires : tie.Need-correction-at-requires Inv-loop μ-loop
+correction-at-requires c κs = search needs
 
 extended-requires : tie.Need-extended-requires Inv-loop μ-loop
 extended-requires c κs = search needs
@@ -37,16 +34,15 @@ loop-again c = search needs
 returns : tie.Need-returns Inv-loop μ-loop
 returns c = search needs
 
-pub extent-of-moon-spec : {M : Type 1} → statement M
-extent-of-moon-spec =
+pub extent-of-spec : {M : Type 1} → statement M
+extent-of-spec =
     tie.close
     (tie.spec
     Inv-loop
     μ-loop
     no-extent-requires
     loop-holds
-    mul-t5
-    moon-of-requires
+    correction-at-requires
     extended-requires
     add-place
     loop-less
