@@ -42,6 +42,7 @@ pub fn all() -> String {
         grades(),
         nodes(),
         record_of_1522(),
+        lengths(),
         damage(),
         runs(),
         freed(),
@@ -319,22 +320,30 @@ fn record_of_1522() -> String {
     format!("record of 1522: {bytes} {writing} {reading}\n")
 }
 
-/// A buffer too short, and then the record of 1522 with one field after the
-/// other changed.
-fn damage() -> String {
+fn lengths() -> String {
     let mut short = [0; 24];
-    let mut numbers = vec![
-        refusal::number(record::write(3, 0, &mut short)),
-        refusal::number(record::read(&short)),
-    ];
+    let mut long = [0; 26];
+    figure_line(
+        "24 bytes to write calendar 3 in, and to read; 26 bytes to write 1522 in, and to read",
+        &[
+            refusal::number(record::write(3, 0, &mut short)),
+            refusal::number(record::read(&short)),
+            refusal::number(record::write(1, 1522, &mut long)),
+            refusal::number(record::read(&long)),
+        ],
+    )
+}
+
+/// The record of 1522 with one field after the other changed.
+fn damage() -> String {
+    let mut numbers = Vec::new();
     let mut bytes = record::of_year(&covered(1, 1522));
     for (place, byte) in [(15, 133), (7, 9), (3, 3), (20, 6)] {
         bytes[place] = byte;
         numbers.push(refusal::number(record::read(&bytes)));
     }
     figure_line(
-        "24 bytes to write calendar 3 in and to read; \
-         another first day, then year, calendar and tag too",
+        "another first day, then another year, calendar and tag too",
         &numbers,
     )
 }
@@ -357,8 +366,13 @@ fn runs() -> String {
             ],
         ),
         figure_line(
-            "dropping from it and from 1522, what is left",
-            &[dropping(&full), dropping(&run_from(1522, 0))].concat(),
+            "dropping from it, from 1522, and from a run of zeros, what is left",
+            &[
+                dropping(&full),
+                dropping(&run_from(1522, 0)),
+                dropping(&run_from(0, 0)),
+            ]
+            .concat(),
         ),
     ]
     .concat()

@@ -15,7 +15,7 @@ use Rattle.months.proofs.Steady.{Steady}
 use Rattle.months.proofs.Terms.{name-told}
 use Rattle.months.proofs.Calendars.{senmyo-steady, genka-steady}
 use Rattle.months.proofs.Figures.{month-with, first-1522, first-1523, first-643, first-644, senmyo-opens, senmyo-ends, genka-opens, genka-ends}
-use Rattle.senmyo.specs.Means.{midTerm}
+use Rattle.means.specs.Means.{midTerm}
 use Rattle.senmyo.proofs.Worked.{dayAt}
 use Rattle.units.specs.Units.{dayByo}
 use Rattle.calendar.specs.declared.Month.{Month}

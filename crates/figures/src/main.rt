@@ -356,15 +356,23 @@ fn print_reading(bytes: &[u8]) {
     print_number(answer.refusal as u64);
 }
 
-// With what a buffer of 24 bytes is refused, to write and to read; then 25 with one field of the record after the other changed.
-fn print_damage() {
+fn print_lengths() {
     let mut short = [0u8; 24];
-    let mut bytes = [0u8; 25];
+    let mut long = [0u8; 26];
     print_text(
-        b"24 bytes to write calendar 3 in and to read; another first day, then year, calendar and tag too:",
+        b"24 bytes to write calendar 3 in, and to read; 26 bytes to write 1522 in, and to read:",
     );
     print_number(record::write_record(3, 0, &mut short) as u64);
     print_reading(&short);
+    print_number(record::write_record(1, 1522, &mut long) as u64);
+    print_reading(&long);
+    print_line_end();
+}
+
+// With what the record of 1522 is refused with one field after the other changed.
+fn print_damage() {
+    let mut bytes = [0u8; 25];
+    print_text(b"another first day, then another year, calendar and tag too:");
     record::write_record(1, 1522, &mut bytes);
     bytes[15] = 133;
     print_reading(&bytes);
@@ -416,9 +424,10 @@ fn print_runs() {
     print_extending(run_from(1684, 0));
     print_extending(run_from(0, 0));
     print_line_end();
-    print_text(b"dropping from it and from 1522, what is left:");
+    print_text(b"dropping from it, from 1522, and from a run of zeros, what is left:");
     print_dropping(full);
     print_dropping(run_from(1522, 0));
+    print_dropping(run_from(0, 0));
     print_line_end();
 }
 
@@ -546,6 +555,7 @@ fn main() {
     print_grades();
     print_nodes();
     print_record();
+    print_lengths();
     print_damage();
     print_runs();
     print_freed();

@@ -3,6 +3,7 @@ use mathlib.Core.Path.{_≡_}
 use Prim.Native.Nat.{ℕ, _+_, _*_, _<_, _≤_, _^_}
 use native.Mathlib.Omega.{arith}
 use Rattle.numbers.proofs.Spans.{one-span}
+use Rattle.means.proofs.MeanLaws as mean-laws
 use Rattle.senmyo.proofs.Lengths as senmyo-lengths
 use Rattle.genka.proofs.GenkaLaws as genka-laws
 use Rattle.months.specs.declared.Calendar.{Calendar}
@@ -16,8 +17,8 @@ pub senmyo-steady : Steady senmyo
 senmyo-steady =
     record {
       months-grow = senmyo-lengths.new-moons-grow;
-      terms-grow = senmyo-lengths.terms-grow;
-      terms-apart = senmyo-lengths.term-takes;
+      terms-grow = mean-laws.terms-grow;
+      terms-apart = mean-laws.term-takes;
       twelve-terms = λ y. omega arith;
       numbers = λ y i h. omega (arith, h);
     }

@@ -6,7 +6,7 @@ use lib.Dec.{T, leb, ltb, leb→le, ltb→lt}
 use mir.Facts.{and-yes}
 use Rattle.numbers.proofs.Spans.{span-is}
 use Rattle.units.specs.Units.{fenToByo}
-use Rattle.senmyo.specs.Means.{accumulatedYears, solstice, midTerm, meanNewMoon}
+use Rattle.means.specs.Means.{accumulatedYears, solstice, midTerm, meanNewMoon}
 use Rattle.senmyo.specs.Phases.{newMoon}
 use Rattle.senmyo.proofs.Worked.{dayAt}
 use Rattle.months.specs.Rules.{Rules, senmyo, genka, dayNumber}

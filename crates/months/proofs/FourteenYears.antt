@@ -3,6 +3,7 @@ use mathlib.Core.Path.{_≡_}
 use Prim.Native.Nat.{ℕ, _+_, _*_, _<_, _≤_}
 use native.Mathlib.Omega.{arith}
 use Rattle.numbers.proofs.Spans.{later, span-to}
+use Rattle.means.proofs.MeanLaws as mean-laws
 use Rattle.senmyo.proofs.Lengths as senmyo-lengths
 use Rattle.genka.proofs.GenkaLaws as genka-laws
 use Rattle.months.specs.declared.Calendar.{Calendar}
@@ -30,5 +31,5 @@ module _ (r : Rules) (s : Steady r) where
 
 pub at-most-174 : (c : Calendar) (y n : ℕ) → n ≤ 14 → firstMonth (rulesOf c) (y + n) ≤ firstMonth (rulesOf c) y + 174
 unfolding rulesOf
-at-most-174 Senmyo y n h = ends senmyo senmyo-steady y n h (record { months = senmyo-lengths.months-of-14-years; terms = senmyo-lengths.terms-of-14-years })
+at-most-174 Senmyo y n h = ends senmyo senmyo-steady y n h (record { months = senmyo-lengths.months-of-14-years; terms = mean-laws.terms-of-14-years })
 at-most-174 Genka y n h = ends genka genka-steady y n h (record { months = genka-laws.months-of-14-years; terms = genka-laws.terms-of-14-years })

@@ -1,7 +1,7 @@
 -- How the search for a month begins, and what the functions that take a month ask of it. No rule of the calendar.
 use mathlib.Core.Path.{_≡_}
 use Prim.Native.Nat.{ℕ, _+_, _<_, _≤_, _^_}
-use Rattle.senmyo.specs.Room as senmyo-room
+use Rattle.means.specs.Room as senmyo-room
 use Rattle.genka.specs.Room as genka-room
 use Rattle.months.specs.declared.Calendar.{Calendar}
 use Rattle.months.specs.declared.Calendar.the-variants.{Senmyo, Genka}

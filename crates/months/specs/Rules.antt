@@ -2,7 +2,7 @@
 -- from the calendar's own origin.
 use Prim.Native.Nat.{ℕ, _-_, _/_}
 use Rattle.units.specs.Units.{dayFen}
-use Rattle.senmyo.specs.Means as senmyo-means
+use Rattle.means.specs.Means as senmyo-means
 use Rattle.senmyo.specs.Phases as senmyo-phases
 use Rattle.genka.specs.Genka as genka-means
 use Rattle.months.specs.declared.Calendar.{Calendar}

@@ -19,10 +19,11 @@ use Rattle.kept.specs.Runs.{noRun, runOf, isRun}
 use Rattle.kept.specs.Room.{Kept}
 use Rattle.kept.proofs.Content.{calendar-told, first-told, years-told, is-own, count-fits}
 use Rattle.kept.proofs.Examined.{KeptYears, kept-is}
-use Rattle.run.specs.Calls.{openOf, extendOf, dropOf, holdsYear, holdsDay, runDayOf, runDateOf}
+use Rattle.held.specs.Held.{holdsYear, holdsDay}
+use Rattle.run.specs.Calls.{openOf, extendOf, dropOf, runDayOf, runDateOf}
 use Rattle.run.specs.Answers.{runAnswer}
 use Rattle.run.specs.History.{Call, extend, drop, runAfter, runAfterAll, Years, yearsAfter, yearsAfterAll, OneDate, Demanded}
-use Rattle.run.proofs.Lookups.{held-day-covered, held-date-year, year-day-held, place-day-held, one-place}
+use Rattle.held.proofs.Lookups.{held-day-covered, held-date-year, year-day-held, place-day-held, one-place}
 use Rattle.run.proofs.Refusals.{open-given, run-day-given}
 
 -- ---- what a run answers is the calendar's own

@@ -14,8 +14,9 @@ use Rattle.calendar.proofs.Refusals.{day-refused-2, day-refused-3, day-refused-
 use Rattle.kept.specs.declared.Run.{Run}
 use Rattle.kept.specs.Runs.{runOf, noRun, canBeKept, isRun}
 use Rattle.kept.proofs.Examined.{is-kept}
-use Rattle.run.specs.Calls.{openOf, extendOf, dropOf, holdsYear, holdsDay, runDayOf, runDateOf}
-use Rattle.run.proofs.Lookups.{held-year-covered, held-day-covered}
+use Rattle.held.specs.Held.{holdsYear, holdsDay}
+use Rattle.run.specs.Calls.{openOf, extendOf, dropOf, runDayOf, runDateOf}
+use Rattle.held.proofs.Lookups.{held-year-covered, held-day-covered}
 use Rattle.run.proofs.Steps.{its-calendar}
 
 -- ---- opening

@@ -3,7 +3,7 @@ use mathlib.Core.Path.{_≡_, sym, ap}
 use mathlib.Core.Bool.{Bool, true, false, _&&_}
 use Prim.Native.Nat.{ℕ, _+_, _<_, _≤_}
 use native.Mathlib.Omega.{arith}
-use borrow.Author.Tests.{le-leb, lt-leb, lt-ltb, le-ltb}
+use borrow.Author.Tests.{lt-ltb, le-ltb}
 use Rattle.numbers.specs.Answer.{given, refused, need}
 use Rattle.numbers.proofs.Answers.{not-refused, one-given, one-refusal, holds}
 use Rattle.months.specs.declared.Calendar.{Calendar}
@@ -14,7 +14,8 @@ use Rattle.kept.specs.declared.Run.{Run}
 use Rattle.kept.specs.Runs.{runOf, isRun}
 use Rattle.kept.specs.Room.{Extendable}
 use Rattle.kept.proofs.Examined.{is-kept}
-use Rattle.run.specs.Calls.{openOf, extendOf, holdsYear, runDayOf, runDateOf, dayInRun, dateInRun}
+use Rattle.held.specs.Held.{dayInRun, dateInRun}
+use Rattle.run.specs.Calls.{openOf, extendOf, runDayOf, runDateOf}
 
 -- ---- a year that was asked for
 
@@ -83,13 +84,3 @@ module _ (run : Run) where
     pub day-in-it : isRun run ≡ true → runDayOf run y m leap d ≡ dayInRun run y m leap d
     unfolding runDayOf
     day-in-it h = holds 11 _ _ h
-
-    -- the two tests of the year
-    pub year-too-early : y < run .«first_year» → dayInRun run y m leap d ≡ refused 2
-    year-too-early h = rw (lt-leb (run .«first_year») y h)
-
-    pub year-too-late : run .«first_year» ≤ y → run .«first_year» + run .years ≤ y → dayInRun run y m leap d ≡ refused 2
-    year-too-late low h = rw (le-leb (run .«first_year») y low, le-ltb y (run .«first_year» + run .years) h)
-
-  pub year-held : (y : ℕ) → run .«first_year» ≤ y → y < run .«first_year» + run .years → holdsYear run y ≡ true
-  year-held y low high = rw (le-leb (run .«first_year») y low, lt-ltb y (run .«first_year» + run .years) high)

@@ -2,9 +2,8 @@
 use mathlib.Core.Path.{_≡_}
 use mathlib.Core.Bool.{Bool, true, false, _&&_}
 use mathlib.Core.List.{List, [], _∷_}
-use Prim.Native.Nat.{ℕ, _+_, _-_, _%_, _<_, _≤_}
+use Prim.Native.Nat.{ℕ, _+_, _-_, _<_, _≤_}
 use lib.Dec.{ltb}
-use lib.ListN.{getD}
 use Rattle.numbers.specs.Answer.{given}
 use Rattle.months.specs.Rules.{Rules}
 use Rattle.asked.specs.Asked.{rulesFor, isCovered}
@@ -12,7 +11,8 @@ use Rattle.calendar.specs.declared.Date.{Date}
 use Rattle.calendar.specs.Dates.{dayOf, dateOf}
 use Rattle.kept.specs.declared.Run.{Run}
 use Rattle.kept.specs.Runs.{runOf, isRun}
-use Rattle.run.specs.Calls.{extendOf, dropOf, holdsYear, holdsDay, runDayOf, runDateOf}
+use Rattle.held.specs.Held.{holdsYear, holdsDay, PlaceHas, OnePlace}
+use Rattle.run.specs.Calls.{extendOf, dropOf, runDayOf, runDateOf}
 use Rattle.run.specs.Answers.{runAnswer}
 
 -- "any extending and dropping, refused calls too"
@@ -44,18 +44,6 @@ yearsAfter r y drop = elim (ltb 1 (y .number)) [ true ↦ record { first = y .fi
 unfoldable pub yearsAfterAll : Rules → Years → List Call → Years
 yearsAfterAll r y [] = y
 yearsAfterAll r y (call ∷ calls) = yearsAfterAll r (yearsAfter r y call) calls
-
--- place i has day n
-pub record PlaceHas (run : Run) (i n : ℕ) : Type 0 where
-  pub inside : i < run .count
-  pub from : getD (run .«first_days») i 0 ≤ n
-  pub to : n < getD (run .«first_days») i 0 + getD (run .«last_dates») i 0 % 100
-
--- exactly one place has day n
-pub record OnePlace (run : Run) (n : ℕ) : Type 0 where
-  pub place : ℕ
-  pub has : PlaceHas run place n
-  pub no-other : (i : ℕ) → PlaceHas run i n → i ≡ place
 
 -- day n has exactly one date in the run, and it is the calendar's
 pub record OneDate (run : Run) (n : ℕ) : Type 0 where

@@ -1,4 +1,4 @@
--- How long months and mid-terms of Senmyo last. Of every month, the corrections' bounds tell that it has 28 to 31 days; that it has 29 or 30 is
+-- How long months of Senmyo last. Of every month, the corrections' bounds tell that it has 28 to 31 days; that it has 29 or 30 is
 -- computed for the months that the covered years need.
 use mathlib.Core.Bool.{Bool, _&&_}
 use Prim.Native.Nat.{ℕ, _+_, _*_, _<_, _≤_}
@@ -10,12 +10,12 @@ use Rattle.numbers.specs.Difference.{Is}
 use Rattle.numbers.specs.Spans.{Takes}
 use Rattle.numbers.proofs.Difference.{is-pos, is-neg, is-add, is-mul, is-parts, is-one}
 use Rattle.numbers.proofs.Order.{le-is}
-use Rattle.numbers.proofs.Spans.{Growing, growing}
+use Rattle.numbers.proofs.Spans.{Growing}
 use Rattle.numbers.proofs.Tests.{everyTwo, at-each-two}
 use Rattle.units.specs.Units.{fenToByo, wholeDays}
-use Rattle.senmyo.specs.Means.{meanNewMoon, meanFullMoon, midTermDay, rainWater}
+use Rattle.means.specs.Means.{meanNewMoon, meanFullMoon, midTermDay, rainWater}
 use Rattle.senmyo.specs.Phases.{corrections, newMoon, newMoonDay, fullMoon, fullMoonFen}
-use Rattle.senmyo.specs.Room.{meanMonth}
+use Rattle.means.specs.Room.{meanMonth}
 use Rattle.senmyo.proofs.Worked.{dayAt}
 use Rattle.senmyo.proofs.PhaseLaws.{corrections-between, new-moon-exact, full-moon-exact, advance-is-floor}
 
@@ -51,12 +51,6 @@ pub tested-to : midTermDay (rainWater 1685) < newMoonDay (firstTested + tested)
 unfolding dayAt
 tested-to = ltb→lt _ _ tt
 
-pub term-takes : (j : ℕ) → Takes midTermDay j 30 31
-term-takes j = record { at-least = omega arith; at-most = omega arith }
-
-pub terms-grow : Growing midTermDay
-terms-grow = growing midTermDay 30 31 (omega arith) (omega arith) term-takes
-
 -- ---- of every month, by the bounds of the corrections
 
 -- where the day of new moon k lies, beside its mean
@@ -81,12 +75,9 @@ near-mean k =
 pub new-moons-grow : Growing newMoonDay
 new-moons-grow = record { zeroth = omega (arith, near-mean 0); grows = λ k. omega (arith, near-mean k, near-mean (k + 1)) }
 
--- the mid-terms of 14 years take no more than 5,114 days, and 174 months take more
+-- 174 months take more than 5,114 days, which the mid-terms of 14 years do not
 pub months-of-14-years : (k : ℕ) → newMoonDay k + 5114 < newMoonDay (k + 174)
 months-of-14-years k = omega (arith, near-mean k, near-mean (k + 174))
-
-pub terms-of-14-years : (j : ℕ) → midTermDay (j + 168) ≤ midTermDay j + 5114
-terms-of-14-years j = omega arith
 
 -- the mean new moon before a day's start opens the month of that day, or the month before
 pub opened-by-start : (d : ℕ) → newMoonDay (meanMonth d) ≤ d

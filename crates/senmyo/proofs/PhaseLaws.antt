@@ -17,7 +17,7 @@ use Rattle.units.specs.declared.Byo.{Byo}
 use Rattle.units.specs.declared.Fen.{Fen}
 use Rattle.units.specs.declared.AnomalySecond.{AnomalySecond}
 use Rattle.units.specs.Units.{fen, fenToByo, byoToFen, byoToAnomalySeconds, wholeDays, fenOfDay, dayByo}
-use Rattle.senmyo.specs.Means.{meanNewMoon, meanFullMoon}
+use Rattle.means.specs.Means.{meanNewMoon, meanFullMoon}
 use Rattle.sun.specs.Sun.{sunOf}
 use Rattle.moon.specs.Moon.{moonOf}
 use Rattle.senmyo.specs.Phases.{corrections, newMoon, advancedDay, fullMoon}

@@ -5,7 +5,7 @@ use Rattle.numbers.specs.Rounding.{nearest}
 use Rattle.units.specs.Units.{fenToByo, byoToAnomalySeconds}
 use Rattle.sun.specs.Sun.{solsticeRow, laterRows, placeIn, sunPlace, afterDays, onDay, sunShare, sunOf}
 use Rattle.moon.specs.Moon.{upperRows, lowerRows, shareOf, inHalf, halfOf, moonOf}
-use Rattle.senmyo.specs.Means.{meanNewMoon}
+use Rattle.means.specs.Means.{meanNewMoon}
 use Rattle.senmyo.specs.Phases.{corrections, newMoon, advancedDay, newMoonDay}
 
 -- both corrections at mean new moon k

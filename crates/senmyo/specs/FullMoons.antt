@@ -6,7 +6,7 @@ use Rattle.eclipse.specs.declared.Node.{Node}
 use Rattle.eclipse.specs.Eclipse.{nodePlace, nodeOf}
 use Rattle.sun.specs.Sun.{sunOf}
 use Rattle.moon.specs.Moon.{moonOf}
-use Rattle.senmyo.specs.Means.{meanFullMoon}
+use Rattle.means.specs.Means.{meanFullMoon}
 
 -- the node's place at the full moon after new moon k: the mean moment, half fen included, and the corrections taken there
 unfoldable pub nodePlaceAt : ℕ → NodeSecond

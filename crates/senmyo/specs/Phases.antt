@@ -7,7 +7,7 @@ use Rattle.numbers.specs.Sign.{whole}
 use Rattle.units.specs.declared.Fen.{Fen}
 use Rattle.units.specs.declared.Byo.{Byo}
 use Rattle.units.specs.Units.{fen, byo, fenToByo, byoToFen, byoToAnomalySeconds, wholeDays, fenOfDay}
-use Rattle.senmyo.specs.Means.{meanNewMoon, meanFullMoon}
+use Rattle.means.specs.Means.{meanNewMoon, meanFullMoon}
 use Rattle.sun.specs.Sun.{sunOf}
 use Rattle.moon.specs.Moon.{moonOf}
 

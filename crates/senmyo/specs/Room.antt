@@ -1,14 +1,8 @@
--- What the inner functions ask of their callers, so that every number fits its word, and how the search for a month begins. No rule of the calendar.
-use Prim.Native.Nat.{ℕ, _*_, _/_, _<_, _≤_, _^_}
+-- What the inner functions ask of their callers, so that every number fits its word. No rule of the calendar.
+use Prim.Native.Nat.{_<_, _≤_, _^_}
 use lib.IntN.{ℤ, pos, natAbs, _+ℤ_, _*ℤ_}
 use lib.Signed.{_≤ℤ_}
 use Rattle.units.specs.declared.Byo.{Byo}
-use Rattle.units.specs.Units.{dayFen}
-use Rattle.senmyo.specs.Means.{meanNewMoon}
-
--- the last mean new moon by the start of a day
-abbrev pub meanMonth : ℕ → ℕ
-meanMonth day = dayFen * day / meanNewMoon 1 .0
 
 -- a moment, and a correction that leaves it after the start of the count
 pub record Movable (moment : Byo) (correction : ℤ) : Type 0 where

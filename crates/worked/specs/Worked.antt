@@ -12,7 +12,7 @@ use Rattle.eclipse.specs.declared.Side.the-variants.{Yin}
 use Rattle.eclipse.specs.Eclipse.{partial}
 use Rattle.sun.specs.Sun.{sunOf}
 use Rattle.moon.specs.Moon.{moonOf}
-use Rattle.senmyo.specs.Means.{solstice, meanNewMoon}
+use Rattle.means.specs.Means.{solstice, meanNewMoon}
 use Rattle.senmyo.specs.Phases.{newMoon, newMoonDay}
 use Rattle.months.specs.Rules.{senmyo, dayNumber}
 use Rattle.asked.specs.Asked.{regularMonth}

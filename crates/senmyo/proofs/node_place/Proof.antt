@@ -9,7 +9,7 @@ use Rattle.numbers.proofs.Size.{small-fits}
 use Rattle.units.specs.Units.{byoToAnomalySeconds}
 use Rattle.sun.specs.Sun.{sunOf}
 use Rattle.moon.specs.Moon.{moonOf}
-use Rattle.senmyo.specs.Means.{meanFullMoon}
+use Rattle.means.specs.Means.{meanFullMoon}
 use Rattle.senmyo.specs.FullMoons.{nodePlaceAt}
 use Rattle.senmyo.proofs.PhaseLaws.{sun-small, moon-small}
 use Rattle.senmyo.proofs.node_place.Statement.{statement}

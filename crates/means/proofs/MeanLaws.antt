@@ -1,10 +1,12 @@
--- The means of Senmyo agree with each other as 01 says.
+-- The means of Senmyo agree with each other as 01 says, and its mid-terms lie 30 or 31 days apart.
 use mathlib.Core.Path.{_≡_, refl, ap}
-use Prim.Native.Nat.{ℕ, _+_, _*_}
+use Prim.Native.Nat.{ℕ, _+_, _*_, _≤_}
 use native.Mathlib.Omega.{arith}
+use Rattle.numbers.specs.Spans.{Takes}
+use Rattle.numbers.proofs.Spans.{Growing, growing}
 use Rattle.units.specs.Units.{byo, anomalySeconds, fenToByo, byoToAnomalySeconds}
 use Rattle.sun.specs.Sun.{year}
-use Rattle.senmyo.specs.Means.{accumulatedYears, solstice, termSpacing, midTerm, rainWater, meanNewMoon, meanFullMoon}
+use Rattle.means.specs.Means.{accumulatedYears, solstice, termSpacing, midTerm, midTermDay, rainWater, meanNewMoon, meanFullMoon}
 
 -- mid-terms are 255,671 1/4 fen apart
 mid-term-spacing : midTerm 1 ≡ byo (255671 * 8 + 2)
@@ -32,3 +34,13 @@ new-moon-seconds k = ap anomalySeconds (omega arith)
 
 pub full-moon-seconds : (k : ℕ) → byoToAnomalySeconds (meanFullMoon k) ≡ anomalySeconds (248057_00 * k + 124028_50)
 full-moon-seconds k = ap anomalySeconds (omega arith)
+
+pub term-takes : (j : ℕ) → Takes midTermDay j 30 31
+term-takes j = record { at-least = omega arith; at-most = omega arith }
+
+pub terms-grow : Growing midTermDay
+terms-grow = growing midTermDay 30 31 (omega arith) (omega arith) term-takes
+
+-- those of 14 years take no more than 5,114 days
+pub terms-of-14-years : (j : ℕ) → midTermDay (j + 168) ≤ midTermDay j + 5114
+terms-of-14-years j = omega arith

@@ -29,12 +29,11 @@ use Rattle.calendar.proofs.Covered.{year-room, covered-day-told, covered-day-te
 use Rattle.calendar.proofs.Refusals.{day-given, day-refused-3, day-refused-4, date-given}
 use Rattle.kept.specs.declared.Run.{Run}
 use Rattle.kept.specs.Runs.{dateNumber}
-use Rattle.run.specs.Calls.{holdsDay, holdsYear, dateInRun, dayInRun}
 use Rattle.kept.specs.Room.{Kept}
-use Rattle.run.specs.History.{PlaceHas, OnePlace}
-use Rattle.run.specs.Room.{OneBegun, LastBegun, FirstNamed, monthPlace}
+use Rattle.held.specs.Held.{holdsDay, holdsYear, dateInRun, dayInRun, PlaceHas, OnePlace}
+use Rattle.held.specs.Room.{OneBegun, LastBegun, FirstNamed, monthPlace}
 use Rattle.kept.proofs.Content.{own-count, count-fits, own-day, own-date, own-covering}
-use Rattle.run.proofs.DateNumbers.{Small, number-day, number-month, number-year, number-leap, OneMonth, one-month, same-month}
+use Rattle.held.proofs.DateNumbers.{Small, number-day, number-month, number-year, number-leap, OneMonth, one-month, same-month}
 
 -- what is asked of a month by its name is asked of any equal name
 of-name : {A : Type 0} (f : ℕ → Bool → A) {m n : ℕ} {k l : Bool} → m ≡ n → k ≡ l → f m k ≡ f n l

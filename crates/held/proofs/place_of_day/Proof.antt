@@ -1,12 +1,12 @@
--- `run::place_of_day` meets its contract: the place that is looked for lies from `low` up to `high`, and their distance shrinks.
+-- `held::place_of_day` meets its contract: the place that is looked for lies from `low` up to `high`, and their distance shrinks.
 use mathlib.Core.Path.{_≡_}
 use Prim.Native.Nat.{_+_, _-_, _<_, _≤_}
 use native.Mathlib.Omega.{arith}
 use borrow.Author.Needs.{needs}
 use lib.ListN.{getD}
-use Rattle.run.specs.Room.{OneBegun}
-use Rattle.run.proofs.place_of_day.Statement.{statement}
-use Rattle.run.proofs.place_of_day.Tie as tie
+use Rattle.held.specs.Room.{OneBegun}
+use Rattle.held.proofs.place_of_day.Statement.{statement}
+use Rattle.held.proofs.place_of_day.Tie as tie
 
 abbrev Inv-loop : tie.InvT-loop
 Inv-loop first-days count day low₀ high₀ low high = (low < high) × (high ≤ count) × (getD first-days low 0 ≤ day) × (high < count → day < getD first-days high 0)

@@ -2,7 +2,7 @@
 use mathlib.Core.Path.{_≡_, refl}
 use Prim.Native.Nat.{_+_, _-_, _%_}
 use Rattle.units.specs.Units.{wholeDays}
-use Rattle.senmyo.specs.Means.{solstice, dayZero}
+use Rattle.means.specs.Means.{solstice, dayZero}
 
 -- the solstice before 1522 falls on a day of cycle number 0
 solstice-cycle-1522 : (wholeDays (solstice 1522) - dayZero + 49) % 60 ≡ 0

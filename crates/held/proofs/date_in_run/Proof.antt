@@ -1,4 +1,4 @@
--- `run::date_in_run` meets its contract: the day is one of the run's, its month is found by the months' first days, and its date by the last date.
+-- `held::date_in_run` meets its contract: the day is one of the run's, its month is found by the months' first days, and its date by the last date.
 use mathlib.Core.Path.{sym}
 use Prim.Native.Nat.{_+_, _-_, _%_, _<_, _≤_}
 use native.Mathlib.Omega.{arith}
@@ -6,9 +6,9 @@ use borrow.Author.Needs.{needs}
 use lib.ListN.{getD}
 use Rattle.kept.specs.Room.{Kept}
 use Rattle.kept.proofs.Content.{count-fits}
-use Rattle.run.proofs.Lookups.{some-month, ends-small, too-early, too-late, day-small, one-begun, before-end, date-found}
-use Rattle.run.proofs.date_in_run.Statement.{statement}
-use Rattle.run.proofs.date_in_run.Tie as tie
+use Rattle.held.proofs.Lookups.{some-month, ends-small, too-early, too-late, day-small, one-begun, before-end, date-found}
+use Rattle.held.proofs.date_in_run.Statement.{statement}
+use Rattle.held.proofs.date_in_run.Tie as tie
 
 cast-count : tie.Need-cast-count
 cast-count c = search needs

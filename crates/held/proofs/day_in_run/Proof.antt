@@ -1,16 +1,16 @@
--- `run::day_in_run` meets its contract: it tests in 01's order, and tells the day by the month's first.
+-- `held::day_in_run` meets its contract: it tests in 01's order, and tells the day by the month's first.
 use mathlib.Core.Path.{_≡_, sym}
 use mathlib.Core.Bool.{true}
 use Prim.Native.Nat.{_≤_}
 use native.Mathlib.Omega.{arith}
 use borrow.Author.Needs.{needs}
-use Rattle.run.specs.Calls.{holdsYear}
+use Rattle.held.specs.Held.{holdsYear}
 use Rattle.kept.specs.Room.{Kept}
 use Rattle.kept.proofs.Content.{count-fits}
-use Rattle.run.proofs.Steps.{year-too-early, year-too-late, year-held}
-use Rattle.run.proofs.Lookups.{lacks, day-0, past-month, day-fits, day-found}
-use Rattle.run.proofs.day_in_run.Statement.{statement}
-use Rattle.run.proofs.day_in_run.Tie as tie
+use Rattle.held.proofs.Steps.{year-too-early, year-too-late, year-held}
+use Rattle.held.proofs.Lookups.{lacks, day-0, past-month, day-fits, day-found}
+use Rattle.held.proofs.day_in_run.Statement.{statement}
+use Rattle.held.proofs.day_in_run.Tie as tie
 
 cast-if1 : tie.Need-cast-if1
 cast-if1 c = search needs

@@ -1,7 +1,7 @@
--- `senmyo::mid_term_day` meets its contract: it takes the whole days of the mid-term.
+-- `means::mid_term_day` meets its contract: it takes the whole days of the mid-term.
 use borrow.Author.Needs.{needs}
-use Rattle.senmyo.proofs.mid_term_day.Statement.{statement}
-use Rattle.senmyo.proofs.mid_term_day.Tie as tie
+use Rattle.means.proofs.mid_term_day.Statement.{statement}
+use Rattle.means.proofs.mid_term_day.Tie as tie
 
 mid-term-requires : tie.Need-mid-term-requires
 mid-term-requires c κs = search needs

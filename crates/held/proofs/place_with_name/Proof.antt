@@ -1,12 +1,12 @@
--- `run::place_with_name` meets its contract: before each turn no place so far has the name.
+-- `held::place_with_name` meets its contract: before each turn no place so far has the name.
 use mathlib.Core.Path.{_≡_}
 use Prim.Native.Nat.{ℕ, _-_, _/_, _<_, _≤_}
 use native.Mathlib.Omega.{arith}
 use borrow.Author.Needs.{needs}
 use borrow.Author.Count.{below-more}
 use lib.ListN.{getD}
-use Rattle.run.proofs.place_with_name.Statement.{statement}
-use Rattle.run.proofs.place_with_name.Tie as tie
+use Rattle.held.proofs.place_with_name.Statement.{statement}
+use Rattle.held.proofs.place_with_name.Tie as tie
 
 abbrev Inv-loop : tie.InvT-loop
 Inv-loop last-dates count name place₀ place = (place ≤ count) × ((j : ℕ) → j < place → getD last-dates j 0 / 100 ≡ name → ⊥)

@@ -1,11 +1,11 @@
--- `run::place_of_month` meets its contract: the last dates of a run's months name them.
+-- `held::place_of_month` meets its contract: the last dates of a run's months name them.
 use native.Mathlib.Omega.{arith}
 use borrow.Author.Needs.{needs}
-use Rattle.run.specs.Room.{HeldYear}
+use Rattle.held.specs.Room.{HeldYear}
 use Rattle.kept.proofs.Content.{count-fits}
-use Rattle.run.proofs.Lookups.{no-such-number, held-year-small, found-named}
-use Rattle.run.proofs.place_of_month.Statement.{statement}
-use Rattle.run.proofs.place_of_month.Tie as tie
+use Rattle.held.proofs.Lookups.{no-such-number, held-year-small, found-named}
+use Rattle.held.proofs.place_of_month.Statement.{statement}
+use Rattle.held.proofs.place_of_month.Tie as tie
 
 cast-count : tie.Need-cast-count
 cast-count c = search needs

@@ -1,8 +1,8 @@
--- `senmyo::mean_full_moon` meets its contract: it adds 124,028 1/2 fen to the mean new moon.
+-- `means::mean_full_moon` meets its contract: it adds 124,028 1/2 fen to the mean new moon.
 use native.Mathlib.Omega.{arith}
 use borrow.Author.Needs.{needs}
-use Rattle.senmyo.proofs.mean_full_moon.Statement.{statement}
-use Rattle.senmyo.proofs.mean_full_moon.Tie as tie
+use Rattle.means.proofs.mean_full_moon.Statement.{statement}
+use Rattle.means.proofs.mean_full_moon.Tie as tie
 
 mean-new-moon-requires : tie.Need-mean-new-moon-requires
 mean-new-moon-requires c κs = search needs

@@ -1,0 +1,4 @@
+pub mod Steps
+pub mod DateNumbers
+pub mod Lookups
+pub mod OneAnswer

@@ -1,0 +1,43 @@
+-- What an examined run answers: among its years and days the calendar's own answer (01, "The kept run": "look up a day or date").
+use mathlib.Core.Path.{_≡_}
+use mathlib.Core.Bool.{Bool, _&&_}
+use Prim.Native.Nat.{ℕ, _+_, _%_, _<_, _≤_}
+use lib.Dec.{leb, ltb}
+use lib.ListN.{getD}
+use Rattle.numbers.specs.Answer.{Answer, need}
+use Rattle.months.specs.Rules.{Rules, dayNumber}
+use Rattle.months.specs.Months.{firstDay}
+use Rattle.asked.specs.Asked.{rulesFor}
+use Rattle.calendar.specs.declared.Date.{Date}
+use Rattle.calendar.specs.Dates.{dayOf, dateOf}
+use Rattle.kept.specs.declared.Run.{Run}
+
+-- else refusal 2, "in a run: not held"
+abbrev pub holdsYear : Run → ℕ → Bool
+holdsYear run y = leb (run .«first_year») y && ltb y (run .«first_year» + run .years)
+
+-- the day of a date of the run's years
+abbrev pub dayInRun : Run → ℕ → ℕ → Bool → ℕ → Answer ℕ
+dayInRun run y m leap d = need (holdsYear run y) 2 (dayOf (run .calendar) y m leap d)
+
+-- else refusal 5: "day outside [..] the run's"
+abbrev pub holdsDay : Run → ℕ → Bool
+holdsDay run n =
+    let r : Rules = rulesFor (run .calendar) in
+    leb (dayNumber r (firstDay r (run .«first_year»))) n && ltb n (dayNumber r (firstDay r (run .«first_year» + run .years)))
+
+-- the date of one of the run's days
+abbrev pub dateInRun : Run → ℕ → Answer Date
+dateInRun run n = need (holdsDay run n) 5 (dateOf (run .calendar) n)
+
+-- place i has day n
+pub record PlaceHas (run : Run) (i n : ℕ) : Type 0 where
+  pub inside : i < run .count
+  pub from : getD (run .«first_days») i 0 ≤ n
+  pub to : n < getD (run .«first_days») i 0 + getD (run .«last_dates») i 0 % 100
+
+-- exactly one place has day n
+pub record OnePlace (run : Run) (n : ℕ) : Type 0 where
+  pub place : ℕ
+  pub has : PlaceHas run place n
+  pub no-other : (i : ℕ) → PlaceHas run i n → i ≡ place

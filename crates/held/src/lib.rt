@@ -1,0 +1,110 @@
+ghost use mathlib.Core.Path.{_≡_};
+ghost use Prim.Native.Nat.{_≤_};
+ghost use Rattle.calendar.specs.Answers.{dayMeans, dateMeans};
+ghost use Rattle.kept.specs.Room.{Kept};
+ghost use Rattle.held.specs.Held.{dayInRun, dateInRun};
+ghost use Rattle.held.specs.Room.{OneBegun, LastBegun, FirstNamed, HeldYear, monthPlace};
+use calendar::Date;
+use calendar::DateAnswer;
+use calendar::DayAnswer;
+use kept::Run;
+
+// The last place of those used whose month has begun by a day.
+fn place_of_day(first_days: &[u32; 174], count: usize, day: u32) -> usize
+    requires { ⌜ OneBegun (now «first_days») count day ⌝ }
+    ensures { λ r. ⌜ LastBegun (now («first_days» .entry)) count day r ⌝ }
+{
+    let mut low: usize = 0;
+    let mut high = count;
+    while low + 1 < high {
+        let middle = (low + high) / 2;
+        if first_days[middle] <= day {
+            low = middle;
+        } else {
+            high = middle;
+        }
+    }
+    low
+}
+
+// The date of a day, looked up in an examined run.
+pub fn date_in_run(run: Run, day: u64) -> DateAnswer
+    requires { ⌜ Kept run ⌝ }
+    ensures { λ r. ⌜ dateMeans r ≡ dateInRun run day ⌝ }
+{
+    let first_days = run.first_days;
+    let count = run.count as usize;
+    if day < first_days[0] as u64 {
+        return DateAnswer::Refused(5);
+    }
+    let last_length = run.last_dates[count - 1] % 100;
+    if first_days[count - 1] as u64 + last_length as u64 <= day {
+        return DateAnswer::Refused(5);
+    }
+    let place = place_of_day(&first_days, count, day as u32);
+    let last_date = run.last_dates[place];
+    DateAnswer::Date(Date {
+        year: (last_date % 100_000_000 / 10_000) as u16,
+        month: (last_date / 100 % 100) as u8,
+        leap: 100_000_000 <= last_date,
+        day: (day - first_days[place] as u64 + 1) as u8,
+    })
+}
+
+// The first used place whose month has a name, told as a date's number without the day; as many places as are used, if there is none.
+fn place_with_name(last_dates: &[u32; 174], count: usize, name: u32) -> usize
+    requires { ⌜ count ≤ 174 ⌝ }
+    ensures { λ r. ⌜ FirstNamed (now («last_dates» .entry)) count name r ⌝ }
+{
+    let mut place: usize = 0;
+    while place < count {
+        if last_dates[place] / 100 == name {
+            return place;
+        }
+        place += 1;
+    }
+    place
+}
+
+// The place of a month of a year that an examined run holds; as many places as are used, if the year lacks it.
+fn place_of_month(run: Run, year: u64, month: u64, leap: bool) -> usize
+    requires { ⌜ HeldYear run year ⌝ }
+    ensures { λ r. ⌜ r ≡ monthPlace run year month leap ⌝ }
+{
+    let count = run.count as usize;
+    if 12 < month {
+        return count;
+    }
+    let date = Date {
+        year: year as u16,
+        month: month as u8,
+        leap,
+        day: 0,
+    };
+    let last_dates = run.last_dates;
+    place_with_name(&last_dates, count, kept::date_number(date) / 100)
+}
+
+// The day of a date, looked up in an examined run.
+pub fn day_in_run(run: Run, year: u64, month: u64, leap: bool, day: u64) -> DayAnswer
+    requires { ⌜ Kept run ⌝ }
+    ensures { λ r. ⌜ dayMeans r ≡ dayInRun run year month leap day ⌝ }
+{
+    if year < run.first_year as u64 {
+        return DayAnswer::Refused(2);
+    }
+    if run.first_year as u64 + run.years as u64 <= year {
+        return DayAnswer::Refused(2);
+    }
+    let place = place_of_month(run, year, month, leap);
+    if run.count as usize <= place {
+        return DayAnswer::Refused(3);
+    }
+    if day < 1 {
+        return DayAnswer::Refused(4);
+    }
+    if ((run.last_dates[place] % 100) as u64) < day {
+        return DayAnswer::Refused(4);
+    }
+    DayAnswer::Day((run.first_days[place] as u64 + day - 1) as u32)
+}

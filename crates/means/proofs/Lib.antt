@@ -1,0 +1,3 @@
+pub mod MeanLaws
+pub mod Figures
+pub mod OneAnswer
