@@ -144,7 +144,10 @@ fn senmyo_means() -> String {
             "mean new moon 1, mean full moon 0, in fen and byo",
             &[senmyo::mean_new_moon(1).0, full_moon_fen, full_moon_byo],
         ),
-        figure_line("Rain Water of 822", &[senmyo::rain_water(822)]),
+        figure_line(
+            "number of the mid-term that is Rain Water of 822",
+            &[senmyo::rain_water(822)],
+        ),
     ]
     .concat()
 }
@@ -164,7 +167,7 @@ fn genka_means() -> String {
             ],
         ),
         figure_line(
-            "day of mid-term 7296, Rain Water of 445",
+            "Genka, day of mid-term 7296, number of the mid-term that is Rain Water of 445",
             &[genka::mid_term_whole_days(7296), genka::rain_water(445)],
         ),
     ]
@@ -211,7 +214,7 @@ fn rows() -> String {
     let correction = |seconds| moon::correction(AnomalySeconds(seconds)).0;
     [
         figure_line(
-            "Moon, upper row 7 at 0, 7465 and 8400 fen",
+            "Moon, upper row 7 at 0 and 7465 fen, row 8 at 0",
             &[5_040_000, 5_786_500, 5_880_000].map(correction),
         ),
         figure_line(
@@ -289,11 +292,11 @@ fn nodes() -> String {
     let place = |mean, sun, moon| eclipse::node_place(Byo(mean), Fen(sun), Fen(moon)).0;
     [
         figure_line(
-            "side and distance of some places, about the nodes and a half",
+            "side (0 yang, 1 yin) and distance at seven places near the nodes and midway",
             &places.map(side_and_distance).concat(),
         ),
         figure_line(
-            "places at 1828662 byo, and at 0 with Sun 1 and -1, with Moon 3217, 3216 and -7",
+            "node places in ten-thousandths of a fen, at 1828662 byo, and at 0 with Sun 1 and -1, with Moon 3217, 3216 and -7",
             &[
                 place(1_828_662, 0, 0),
                 place(0, 1, 0),
@@ -317,7 +320,9 @@ fn record_of_1522() -> String {
     let writing = refusal::number(record::write(1, 1522, &mut bytes));
     let reading = refusal::number(record::read(&bytes));
     let bytes = hexadecimal(&bytes);
-    format!("record of 1522: {bytes} {writing} {reading}\n")
+    format!(
+        "record of 1522, and the refusals in writing and reading it: {bytes} {writing} {reading}\n"
+    )
 }
 
 fn lengths() -> String {
@@ -343,7 +348,7 @@ fn damage() -> String {
         numbers.push(refusal::number(record::read(&bytes)));
     }
     figure_line(
-        "another first day, then another year, calendar and tag too",
+        "another first day, then a year not covered, calendar 3 and another tag too",
         &numbers,
     )
 }
@@ -366,7 +371,7 @@ fn runs() -> String {
             ],
         ),
         figure_line(
-            "dropping from it, from 1522, and from a run of zeros, what is left",
+            "dropping from it, from 1522, and from a run of zeros, refusal, first year, years and months left",
             &[
                 dropping(&full),
                 dropping(&run_from(1522, 0)),
@@ -391,7 +396,7 @@ fn freed() -> String {
 fn refused_opening() -> String {
     let (refusal, zeros) = run::open(1, 1685);
     figure_line(
-        "opening at 1685",
+        "opening at 1685, refusal, calendar, first year, years and months",
         &[
             refusal,
             zeros.calendar.into(),
@@ -431,7 +436,7 @@ fn look_ups() -> String {
         [2_277_733, 2_276_995, 2_277_734].map(|day| date_or_refusal(run::date_of(&run, day)));
     [
         figure_line(
-            "in 1522 and 1523, 1524 month 13 day 0, then 1523, leap month 3, day 1",
+            "in 1522 and 1523: 1524, leap month 13, day 0, then with year 1523, month 3 and day 1 put right in turn",
             &days,
         ),
         figure_line(
@@ -481,7 +486,7 @@ fn days_refused() -> String {
     ]
     .map(|(calendar, day)| date_or_refusal(dates::date_of(calendar, day)));
     figure_line(
-        "day 0 in calendar 3, the first covered days and the last, and those beside them",
+        "day 0 in calendar 3; in each calendar the day before the first covered, the first, the last, the day after",
         &numbers.concat(),
     )
 }

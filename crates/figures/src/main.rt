@@ -1,5 +1,5 @@
-// Prints the figures and edges of the rules but for the eight worked cases, which are proved (`worked`), each worked out by the calls.
-// A line has what it is about, a colon, and the numbers.
+// Prints the figures and edges of the rules but for the eight worked cases, which are proved (`worked`), each worked out by the calls and the
+// functions below them. A line has what it is about, a colon, and the numbers; the last lines are as `paper` prints them.
 ghost use Prim.Native.Nat.{_≤_};
 use calendar::DateAnswer;
 use calendar::DayAnswer;
@@ -138,7 +138,7 @@ fn print_senmyo_means() {
     print_number(senmyo::mean_new_moon(1).0);
     print_fen_and_byo(senmyo::mean_full_moon(0));
     print_line_end();
-    print_text(b"Rain Water of 822:");
+    print_text(b"number of the mid-term that is Rain Water of 822:");
     print_number(senmyo::rain_water(822) as u64);
     print_line_end();
 }
@@ -149,7 +149,7 @@ fn print_genka_means() {
     print_number(genka::full_moon(0).0);
     print_number(genka::new_moon_day(752));
     print_line_end();
-    print_text(b"day of mid-term 7296, Rain Water of 445:");
+    print_text(b"Genka, day of mid-term 7296, number of the mid-term that is Rain Water of 445:");
     print_number(genka::mid_term_day(7296));
     print_number(genka::rain_water(445) as u64);
     print_line_end();
@@ -220,9 +220,9 @@ fn print_extents() {
     print_extent(extent_of(false, 46_292));
 }
 
-// Row 7 at its start, at 7465 fen and at its end; then the starts of lower rows 11 to 14, half an anomaly second late.
+// Row 7 at its start and at 7465 fen, and the start of row 8; then the starts of lower rows 11 to 14, half an anomaly second late.
 fn print_rows() {
-    print_text(b"Moon, upper row 7 at 0, 7465 and 8400 fen:");
+    print_text(b"Moon, upper row 7 at 0 and 7465 fen, row 8 at 0:");
     print_signed(senmyo::moon_of(AnomalySecond(5_040_000)));
     print_signed(senmyo::moon_of(AnomalySecond(5_786_500)));
     print_signed(senmyo::moon_of(AnomalySecond(5_880_000)));
@@ -308,7 +308,7 @@ fn print_node(place: NodeSecond)
 }
 
 fn print_nodes() {
-    print_text(b"side and distance of some places, about the nodes and a half:");
+    print_text(b"side (0 yang, 1 yin) and distance at seven places near the nodes and midway:");
     print_node(NodeSecond(4_999));
     print_node(NodeSecond(5_000));
     print_node(NodeSecond(571_456_628));
@@ -317,7 +317,9 @@ fn print_nodes() {
     print_node(NodeSecond(1_142_913_257));
     print_node(NodeSecond(2_285_821_512));
     print_line_end();
-    print_text(b"places at 1828662 byo, and at 0 with Sun 1 and -1, with Moon 3217, 3216 and -7:");
+    print_text(
+        b"node places in ten-thousandths of a fen, at 1828662 byo, and at 0 with Sun 1 and -1, with Moon 3217, 3216 and -7:",
+    );
     print_number(eclipse::node_place(Byo(1_828_662), 0, 0).0);
     print_number(eclipse::node_place(Byo(0), 1, 0).0);
     print_number(eclipse::node_place(Byo(0), -1, 0).0);
@@ -342,7 +344,7 @@ fn print_bytes(bytes: &[u8]) {
 
 fn print_record() {
     let mut bytes = [0u8; 25];
-    print_text(b"record of 1522:");
+    print_text(b"record of 1522, and the refusals in writing and reading it:");
     let refusal = record::write_record(1, 1522, &mut bytes);
     print_bytes(&bytes);
     print_number(refusal as u64);
@@ -372,7 +374,7 @@ fn print_lengths() {
 // With what the record of 1522 is refused with one field after the other changed.
 fn print_damage() {
     let mut bytes = [0u8; 25];
-    print_text(b"another first day, then another year, calendar and tag too:");
+    print_text(b"another first day, then a year not covered, calendar 3 and another tag too:");
     record::write_record(1, 1522, &mut bytes);
     bytes[15] = 133;
     print_reading(&bytes);
@@ -424,7 +426,9 @@ fn print_runs() {
     print_extending(run_from(1684, 0));
     print_extending(run_from(0, 0));
     print_line_end();
-    print_text(b"dropping from it, from 1522, and from a run of zeros, what is left:");
+    print_text(
+        b"dropping from it, from 1522, and from a run of zeros, refusal, first year, years and months left:",
+    );
     print_dropping(full);
     print_dropping(run_from(1522, 0));
     print_dropping(run_from(0, 0));
@@ -445,7 +449,7 @@ fn print_freed() {
 fn print_refused_opening() {
     let answer = run::open_run(1, 1685);
     let zeros = answer.run;
-    print_text(b"opening at 1685:");
+    print_text(b"opening at 1685, refusal, calendar, first year, years and months:");
     print_number(answer.refusal as u64);
     print_number(zeros.calendar as u64);
     print_number(zeros.first_year as u64);
@@ -463,7 +467,9 @@ fn print_day(answer: DayAnswer) {
 
 fn print_look_ups() {
     let run = run_from(1522, 1);
-    print_text(b"in 1522 and 1523, 1524 month 13 day 0, then 1523, leap month 3, day 1:");
+    print_text(
+        b"in 1522 and 1523: 1524, leap month 13, day 0, then with year 1523, month 3 and day 1 put right in turn:",
+    );
     print_day(run::run_day_of(run, 1524, 13, true, 0));
     print_day(run::run_day_of(run, 1523, 13, true, 0));
     print_day(run::run_day_of(run, 1523, 3, true, 0));
@@ -504,7 +510,9 @@ fn print_dates_refused() {
 }
 
 fn print_days_refused() {
-    print_text(b"day 0 in calendar 3, the first covered days and the last, and those beside them:");
+    print_text(
+        b"day 0 in calendar 3; in each calendar the day before the first covered, the first, the last, the day after:",
+    );
     print_date(calendar::date_of(3, 0));
     print_date(calendar::date_of(1, 2_021_319));
     print_date(calendar::date_of(1, 2_021_320));
