@@ -32,7 +32,7 @@ regularMonth r y m = monthWith r (r .rainWater y + (m - 1))
 abbrev pub monthNamed : Rules → ℕ → ℕ → Bool → ℕ
 monthNamed r y m leap = elim leap [ true ↦ regularMonth r y m + 1 | false ↦ regularMonth r y m ]
 
--- else refusal 3: "month not 1 to 12, or a leap month this year lacks"
+-- the year has that month; else refusal 3: "month not 1 to 12, or a leap month this year lacks"
 abbrev pub hasMonth : Rules → ℕ → ℕ → Bool → Bool
 hasMonth r y m leap = (leb 1 m && leb m 12) && elim leap [ true ↦ isLeap r (regularMonth r y m + 1) | false ↦ true ]
 

@@ -13,7 +13,7 @@ use Rattle.calendar.specs.declared.Days.{Days}
 abbrev pub monthLength : Rules → ℕ → ℕ
 monthLength r k = r .start (k + 1) - r .start k
 
--- else refusal 4: "day 0 or past the month"
+-- the month has that day; else refusal 4: "day 0 or past the month"
 abbrev pub hasDay : Rules → ℕ → ℕ → Bool
 hasDay r k d = leb 1 d && leb d (monthLength r k)
 

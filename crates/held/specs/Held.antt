@@ -12,7 +12,7 @@ use Rattle.calendar.specs.declared.Date.{Date}
 use Rattle.calendar.specs.Dates.{dayOf, dateOf}
 use Rattle.kept.specs.declared.Run.{Run}
 
--- else refusal 2, "in a run: not held"
+-- the year is one of the run's; else refusal 2, "in a run: not held"
 abbrev pub holdsYear : Run → ℕ → Bool
 holdsYear run y = leb (run .«first_year») y && ltb y (run .«first_year» + run .years)
 
@@ -20,7 +20,7 @@ holdsYear run y = leb (run .«first_year») y && ltb y (run .«first_year» + ru
 abbrev pub dayInRun : Run → ℕ → ℕ → Bool → ℕ → Answer ℕ
 dayInRun run y m leap d = need (holdsYear run y) 2 (dayOf (run .calendar) y m leap d)
 
--- else refusal 5: "day outside [..] the run's"
+-- the day is one of the run's; else refusal 5: "day outside [..] the run's"
 abbrev pub holdsDay : Run → ℕ → Bool
 holdsDay run n =
     let r : Rules = rulesFor (run .calendar) in

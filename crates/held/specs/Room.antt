@@ -25,7 +25,7 @@ pub record LastBegun (l : List ℕ) (count day i : ℕ) : Type 0 where
   pub begun : getD l i 0 ≤ day
   pub last : i + 1 < count → day < getD l (i + 1) 0
 
--- place i has a last date of that name, but for the day, or is behind all; and no place before it has
+-- place i has a last date of that name, but for the day, or comes after them all; and no place before it has
 pub record FirstNamed (l : List ℕ) (count name i : ℕ) : Type 0 where
   pub at-most : i ≤ count
   pub named : i < count → getD l i 0 / 100 ≡ name
@@ -36,7 +36,7 @@ pub record HeldYear (run : Run) (y : ℕ) : Type 0 where
   pub kept : Kept run
   pub holds : holdsYear run y ≡ true
 
--- the place of a month by its name; behind all, if the year lacks it
+-- the place of a month by its name; after them all, if the year lacks it
 abbrev pub monthPlace : Run → ℕ → ℕ → Bool → ℕ
 monthPlace run y m leap =
     let r : Rules = rulesFor (run .calendar) in

@@ -25,7 +25,7 @@ fullMoonAt k =
 abbrev pub eclipseIn : ℕ → FullMoon × Graded
 eclipseIn k = (fullMoonAt k, gradeOf (fullMoonAt k .distance))
 
--- else refusal 13: "eclipse asked of Genka"
+-- the calendar is Senmyo; else refusal 13: "eclipse asked of Genka"
 abbrev pub isSenmyo : ℕ → Bool
 isSenmyo c = eqb c 1
 

@@ -9,7 +9,7 @@ use Rattle.asked.specs.Asked.{regularMonth}
 use Rattle.senmyo.proofs.Worked.{sunAt, moonAt, dayAt}
 use Rattle.moons.proofs.Figures.{eclipse-1522}
 use Rattle.calendar.proofs.Figures.{months-643, day-643}
-use Rattle.worked.specs.Worked.{Every, Solstice, Sun, Moon, Advance, Month1413, Year643, eight}
+use Rattle.worked.specs.Worked.{Every, Solstice, Sun, Moon, Advance, Month1413, Eclipse, Year643, eight}
 
 -- month m of 1522 has the new moon of that number
 month-1522 : (m : ℕ) → T (hasTest senmyo (87454577 + m) (senmyo .mid (senmyo .rainWater 1522 + (m - 1)))) → regularMonth senmyo 1522 m ≡ 87454577 + m
@@ -43,8 +43,11 @@ month-1413 : Month1413
 unfolding sunAt moonAt
 month-1413 = (rw first-1413, rw first-1413)
 
+eclipse : Eclipse
+eclipse = rw eclipse-1522
+
 year-643 : Year643
 year-643 = rw months-643
 
 pub worked : Every eight
-worked = (solstice, (sun, (moon, (advance, (month-1413, (eclipse-1522, (year-643, ((day-643, refl), tt))))))))
+worked = (solstice, (sun, (moon, (advance, (month-1413, (eclipse, (year-643, ((day-643, refl), tt))))))))

@@ -7,15 +7,18 @@ use lib.IntN.{ℤ}
 use lib.ListN.{getD}
 use Rattle.numbers.specs.Sign.{plus, minus}
 use Rattle.numbers.specs.Answer.{given, then}
+use Rattle.units.specs.declared.Fen.{Fen}
 use Rattle.units.specs.Units.{fen, fenToByo, byoToAnomalySeconds, wholeDays, fenOfDay}
+use Rattle.eclipse.specs.declared.Side.{Side}
 use Rattle.eclipse.specs.declared.Side.the-variants.{Yin}
-use Rattle.eclipse.specs.Eclipse.{partial}
+use Rattle.eclipse.specs.Eclipse.{partial, Graded}
 use Rattle.sun.specs.Sun.{sunOf}
 use Rattle.moon.specs.Moon.{moonOf}
 use Rattle.means.specs.Means.{solstice, meanNewMoon}
 use Rattle.senmyo.specs.Phases.{newMoon, newMoonDay}
 use Rattle.months.specs.Rules.{senmyo, dayNumber}
 use Rattle.asked.specs.Asked.{regularMonth}
+use Rattle.moons.specs.declared.FullMoon.{FullMoon}
 use Rattle.moons.specs.Eclipses.{eclipseOf}
 use Rattle.calendar.specs.declared.Year.{Year}
 use Rattle.calendar.specs.Dates.{dayOf, cycle}
@@ -66,11 +69,13 @@ abbrev pub Month1413 : Type 0
 Month1413 = (sun 1413 1 ≡ plus 1210) × (moon 1413 1 ≡ plus 84)
 
 -- 1522 month 2: full moon at 6215 fen, 2241 from the node, yin, 14 parts, remainder 412, strong
+abbrev told : FullMoon × Graded → Fen × (Fen × (Side × Graded))
+told (moon, grade) = (moon .fen, (moon .distance, (moon .side, grade)))
+
 abbrev pub Eclipse : Type 0
 Eclipse =
-    eclipseOf 1 1522 2 false ≡
-    given
-    (record { day = 2277039; fen = fen 6215; side = Yin; distance = fen 2241 }, record { kind = partial; parts = 14; remainder = 412; strong = true })
+    then (eclipseOf 1 1522 2 false) (λ e. given (told e)) ≡
+    given (fen 6215, (fen 2241, (Yin, record { kind = partial; parts = 14; remainder = 412; strong = true })))
 
 -- 643: first day 1955939, 383 days, 13 months, leap 7
 abbrev summary : Year → ℕ × (ℕ × (ℕ × ℕ))
