@@ -2,6 +2,7 @@ pub mod Steps
 pub mod Refusals
 pub mod Covered
 pub mod OneDate
+pub mod Apart
 pub mod Listed
 pub mod YearLaws
 pub mod FirstDays

@@ -1,15 +1,18 @@
 -- When each call gives its answer and when it refuses, exactly (01, "Refusal numbers"): the first condition that fails names the refusal.
-use mathlib.Core.Path.{_≡_, refl}
+use mathlib.Core.Path.{_≡_, refl, sym}
 use mathlib.Core.Bool.{Bool, true, false}
 use Prim.Native.Nat.{ℕ, _+_}
 use native.Mathlib.Omega.{arith}
-use Rattle.numbers.specs.Answer.{Answer, given, refused, refusalIn}
-use Rattle.numbers.proofs.Answers.{Exactly, after, gives, refuses, passes, never, not-refused}
+use lib.ListN.{length}
+use Rattle.numbers.specs.Answer.{Answer, given, refused, need, refusalIn}
+use Rattle.numbers.proofs.Answers.{Exactly, after, gives, refuses, passes, never, not-refused, one-given, struct-refused, struct-given}
+use Rattle.numbers.proofs.Places.{length-places}
 use Rattle.asked.specs.Asked.{isCalendar, rulesFor, isCovered, hasMonth, monthNamed}
 use Rattle.calendar.specs.declared.Date.{Date}
 use Rattle.calendar.specs.declared.Year.{Year}
+use Rattle.calendar.specs.declared.YearAnswer.{YearAnswer}
 use Rattle.calendar.specs.Dates.{hasDay, dayIn, dayOf, isCoveredDay, dateIn, dateOf}
-use Rattle.calendar.specs.Years.{yearIn, yearOf}
+use Rattle.calendar.specs.Years.{listed, noMonth, yearIn, yearOf}
 use Rattle.calendar.specs.Answers.{yearAnswer}
 
 -- a year's answer holds its refusal's number, or 0
@@ -87,3 +90,21 @@ module _ (c y : ℕ) where
   pub year-refused-2 : Exactly (yearOf c y ≡ refused 2) ((isCalendar c ≡ true) × (isCovered (rulesFor c) y ≡ false))
   unfolding yearOf
   year-refused-2 = after (passes 1 _ _ 2 (λ e. omega (arith, e))) (refuses 2 _ _ (not-refused 2 (yearIn (rulesFor c) y)))
+
+-- no refusal of a calendar or a year is 0
+pub not-0 : {A : Type 0} (a b : Bool) (v : A) → need a 1 (need b 2 (given v)) ≡ refused 0 → ⊥
+not-0 a b v = never 1 _ a 0 (λ e. omega (arith, e)) (never 2 _ b 0 (λ e. omega (arith, e)) (not-refused 0 v))
+
+-- what a year's answer tells: another number than 0 is the refusal's, and with 0 the year is given
+module _ (c y : ℕ) (x : YearAnswer) (e : x ≡ yearAnswer (yearOf c y)) where
+  pub year-refuses : (x .refusal ≡ 0 → ⊥) → yearOf c y ≡ refused (x .refusal)
+  year-refuses h = struct-refused yearAnswer (λ x. x .refusal) (λ x. x .year) year-number (λ v. refl) x (yearOf c y) e h
+
+  pub year-gives : x .refusal ≡ 0 → yearOf c y ≡ given (x .year)
+  unfolding yearOf
+  year-gives h = struct-given yearAnswer (λ x. x .refusal) (λ x. x .year) year-number (λ v. refl) x (yearOf c y) e (not-0 (isCalendar c) (isCovered (rulesFor c) y) (yearIn (rulesFor c) y)) h
+
+-- a year that is given has thirteen places for months
+pub thirteen-places : (c y : ℕ) (x : Year) → yearOf c y ≡ given x → length (x .months) ≡ 13
+unfolding yearIn
+thirteen-places c y x e = rw (sym (one-given _ x (year-given c y x .only-if e .1 .1))) (length-places noMonth (listed (rulesFor c)) _ _ 13)

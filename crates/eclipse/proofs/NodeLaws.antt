@@ -18,7 +18,7 @@ use Rattle.units.specs.Units.{fen}
 use Rattle.eclipse.specs.declared.NodeSecond.{NodeSecond}
 use Rattle.eclipse.specs.declared.Side.the-variants.{Yang, Yin}
 use Rattle.eclipse.specs.declared.Node.{Node}
-use Rattle.eclipse.specs.Eclipse.{nodeSeconds, fenNodeSeconds, byoToNodeSeconds, period, half, moonShare, nodePlace, distanceOf, nodeOf}
+use Rattle.eclipse.specs.Eclipse.{nodeSeconds, fenNodeSeconds, byoToNodeSeconds, period, half, moonShare, nodePlace, inHalf, distanceOf, nodeOf}
 
 -- ---- the corrections
 
@@ -88,3 +88,10 @@ node-yin place h = ap (sided place) (lt-ltb (half .0) (place .0) h)
 pub node-yang : (place : NodeSecond) → place .0 ≤ half .0 → nodeOf place ≡ sided place false
 unfolding nodeOf
 node-yang place h = ap (sided place) (le-ltb (half .0) (place .0) h)
+
+-- ---- how far it can be
+
+-- half the period has fewer fen than that
+pub distance-small : (place : NodeSecond) → nodeOf place .distance .0 < 120000
+unfolding nodeOf
+distance-small place = rw (sym (distance-is (inHalf place))) (omega arith)

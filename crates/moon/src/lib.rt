@@ -5,7 +5,7 @@ ghost use Prim.Native.Nat.{_<_};
 ghost use lib.ListN.{getD};
 ghost use Rattle.units.specs.Units.{dayFen};
 ghost use Rattle.numbers.specs.Sign.{plus, minus};
-ghost use Rattle.moon.specs.Moon.{rows, noRow, fenToHalfSeconds, halfPeriod, part, shareOf, inHalf, moonOf};
+ghost use Rattle.moon.specs.Moon.{upperRows, lowerRows, rows, noRow, fenToHalfSeconds, halfPeriod, part, shareOf, inHalf, moonOf};
 ghost use Rattle.moon.specs.Room.{Part};
 
 // Half an anomaly second, 1/200 fen: the half period is not whole in anomaly seconds.
@@ -46,46 +46,60 @@ const LOSING_IN_7: u64 = 935 * 200;
 const DAY_OF_14: u64 = 6529 * 200;
 
 // 003, Table 4, upper half.
-const UPPER: [MoonRow; 14] = [
-    MoonRow(Change::Gain(830), 0),
-    MoonRow(Change::Gain(726), 830),
-    MoonRow(Change::Gain(606), 1556),
-    MoonRow(Change::Gain(471), 2162),
-    MoonRow(Change::Gain(337), 2633),
-    MoonRow(Change::Gain(202), 2970),
-    MoonRow(Change::GainThenLoss(53, 7), 3172),
-    MoonRow(Change::Loss(82), 3218),
-    MoonRow(Change::Loss(224), 3136),
-    MoonRow(Change::Loss(366), 2912),
-    MoonRow(Change::Loss(509), 2546),
-    MoonRow(Change::Loss(643), 2037),
-    MoonRow(Change::Loss(748), 1394),
-    MoonRow(Change::FirstLoss(646), 646),
-];
+fn upper_row(day: usize) -> MoonRow
+    requires { ⌜ day < 14 ⌝ }
+    ensures { λ r. ⌜ r ≡ getD upperRows day noRow ⌝ }
+{
+    match day {
+        0 => MoonRow(Change::Gain(830), 0),
+        1 => MoonRow(Change::Gain(726), 830),
+        2 => MoonRow(Change::Gain(606), 1556),
+        3 => MoonRow(Change::Gain(471), 2162),
+        4 => MoonRow(Change::Gain(337), 2633),
+        5 => MoonRow(Change::Gain(202), 2970),
+        6 => MoonRow(Change::GainThenLoss(53, 7), 3172),
+        7 => MoonRow(Change::Loss(82), 3218),
+        8 => MoonRow(Change::Loss(224), 3136),
+        9 => MoonRow(Change::Loss(366), 2912),
+        10 => MoonRow(Change::Loss(509), 2546),
+        11 => MoonRow(Change::Loss(643), 2037),
+        12 => MoonRow(Change::Loss(748), 1394),
+        _ => MoonRow(Change::FirstLoss(646), 646),
+    }
+}
 
 // 003, Table 4, lower half.
-const LOWER: [MoonRow; 14] = [
-    MoonRow(Change::Gain(830), 0),
-    MoonRow(Change::Gain(726), 830),
-    MoonRow(Change::Gain(598), 1556),
-    MoonRow(Change::Gain(464), 2154),
-    MoonRow(Change::Gain(329), 2618),
-    MoonRow(Change::Gain(195), 2947),
-    MoonRow(Change::GainThenLoss(53, 7), 3142),
-    MoonRow(Change::Loss(82), 3188),
-    MoonRow(Change::Loss(225), 3106),
-    MoonRow(Change::Loss(366), 2881),
-    MoonRow(Change::Loss(501), 2515),
-    MoonRow(Change::Loss(628), 2014),
-    MoonRow(Change::Loss(740), 1386),
-    MoonRow(Change::FirstLoss(646), 646),
-];
+fn lower_row(day: usize) -> MoonRow
+    requires { ⌜ day < 14 ⌝ }
+    ensures { λ r. ⌜ r ≡ getD lowerRows day noRow ⌝ }
+{
+    match day {
+        0 => MoonRow(Change::Gain(830), 0),
+        1 => MoonRow(Change::Gain(726), 830),
+        2 => MoonRow(Change::Gain(598), 1556),
+        3 => MoonRow(Change::Gain(464), 2154),
+        4 => MoonRow(Change::Gain(329), 2618),
+        5 => MoonRow(Change::Gain(195), 2947),
+        6 => MoonRow(Change::GainThenLoss(53, 7), 3142),
+        7 => MoonRow(Change::Loss(82), 3188),
+        8 => MoonRow(Change::Loss(225), 3106),
+        9 => MoonRow(Change::Loss(366), 2881),
+        10 => MoonRow(Change::Loss(501), 2515),
+        11 => MoonRow(Change::Loss(628), 2014),
+        12 => MoonRow(Change::Loss(740), 1386),
+        _ => MoonRow(Change::FirstLoss(646), 646),
+    }
+}
 
 fn row_of(upper: bool, day: usize) -> MoonRow
     requires { ⌜ day < 14 ⌝ }
     ensures { λ r. ⌜ r ≡ getD (rows upper) day noRow ⌝ }
 {
-    if upper { UPPER[day] } else { LOWER[day] }
+    if upper {
+        upper_row(day)
+    } else {
+        lower_row(day)
+    }
 }
 
 // sum + gain × over / length.

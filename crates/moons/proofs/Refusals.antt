@@ -1,15 +1,19 @@
 -- When each call gives its answer and when it refuses, exactly (01, "Refusal numbers"): the first condition that fails names the refusal.
-use mathlib.Core.Path.{_≡_}
+use mathlib.Core.Path.{_≡_, sym}
 use mathlib.Core.Bool.{Bool, true, false}
-use Prim.Native.Nat.{ℕ}
+use Prim.Native.Nat.{ℕ, _<_}
+use native.Mathlib.Nat.{mod-lt}
 use native.Mathlib.Omega.{arith}
 use Rattle.numbers.specs.Answer.{given, refused}
-use Rattle.numbers.proofs.Answers.{Exactly, after, gives, refuses, passes, never, not-refused}
+use Rattle.numbers.proofs.Answers.{Exactly, after, gives, refuses, passes, never, not-refused, one-given}
+use Rattle.units.specs.Units.{dayFen}
 use Rattle.eclipse.specs.Eclipse.{Graded}
+use Rattle.eclipse.proofs.NodeLaws.{distance-small}
+use Rattle.senmyo.specs.FullMoons.{nodePlaceAt}
 use Rattle.months.specs.Rules.{Rules}
 use Rattle.asked.specs.Asked.{isCalendar, rulesFor, isCovered, monthNamed, hasMonth}
 use Rattle.moons.specs.declared.FullMoon.{FullMoon}
-use Rattle.moons.specs.Eclipses.{eclipseIn, isSenmyo, eclipseOf}
+use Rattle.moons.specs.Eclipses.{fullMoonAt, eclipseIn, isSenmyo, eclipseOf}
 use Rattle.moons.specs.Instants.{ofMonth}
 
 module _ (c y m : ℕ) (leap : Bool) where
@@ -61,3 +65,16 @@ module _ (c y m : ℕ) (leap : Bool) where
   pub eclipse-refused-3 : Exactly (eclipseOf c y m leap ≡ refused 3) ((isCalendar c ≡ true) × ((isSenmyo c ≡ true) × ((covered ≡ true) × (has ≡ false))))
   unfolding eclipseOf
   eclipse-refused-3 = after (passes 1 _ _ 3 (λ e. omega (arith, e))) (after (passes 13 _ _ 3 (λ e. omega (arith, e))) (after (passes 2 _ _ 3 (λ e. omega (arith, e))) (refuses 3 _ _ (not-refused 3 eclipse))))
+
+-- ---- how large a full moon's numbers are
+
+pub record Narrow (m : FullMoon) : Type 0 where
+  pub fen-below : m .fen .0 < dayFen
+  pub distance-below : m .distance .0 < 120000
+
+at-full-moon : (k : ℕ) → Narrow (fullMoonAt k)
+unfolding fullMoonAt
+at-full-moon k = record { fen-below = mod-lt _ (omega arith); distance-below = distance-small (nodePlaceAt k) }
+
+pub moon-narrow : (c y m : ℕ) (leap : Bool) (e : FullMoon × Graded) → eclipseOf c y m leap ≡ given e → Narrow (e .0)
+moon-narrow c y m leap e h = rw (sym (one-given _ e (eclipse-given c y m leap e .only-if h .1 .1 .1 .1))) (at-full-moon _)

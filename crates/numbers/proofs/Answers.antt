@@ -1,7 +1,7 @@
 -- Of several conditions the first that fails names the refusal, and an answer is given exactly if all hold.
 use mathlib.Core.Path.{_≡_, refl, sym, ap, _∙_}
 use mathlib.Core.Bool.{Bool, true, false, false≢true}
-use Prim.Native.Nat.{ℕ}
+use Prim.Native.Nat.{ℕ, _<_}
 use Rattle.numbers.specs.Answer.{Answer, given, refused, need, then, refusalIn}
 
 -- one thing holds exactly if another does
@@ -63,6 +63,11 @@ module _ {A : Type 0} (n : ℕ) (answer : Answer A) where
   pub never : (b : Bool) (m : ℕ) → (n ≡ m → ⊥) → (answer ≡ refused m → ⊥) → need b n answer ≡ refused m → ⊥
   never true m other none e = none e
   never false m other none e = other (one-refusal n m e)
+
+  -- refused with a small number, if both have small ones
+  pub small : (b : Bool) (m limit : ℕ) → n < limit → (answer ≡ refused m → m < limit) → need b n answer ≡ refused m → m < limit
+  small true m limit h rest e = rest e
+  small false m limit h rest e = rw (one-refusal n m e) at h
 
 -- a step after a condition is a condition before the step
 pub then-need : {A B : Type 0} (b : Bool) (n : ℕ) (answer : Answer A) (step : A → Answer B) → then (need b n answer) step ≡ need b n (then answer step)

@@ -4,6 +4,7 @@ pub mod Signs
 pub mod Size
 pub mod Rounding
 pub mod Tests
+pub mod Arms
 pub mod Spans
 pub mod Answers
 pub mod Places

@@ -4,7 +4,7 @@ use mathlib.Core.List.{List, _∷_}
 use Prim.Native.Nat.{ℕ, zero, suc, _+_, _<_, _≤_}
 use native.Mathlib.Numerals.{add-one}
 use native.Mathlib.Omega.{arith}
-use lib.ListN.{getD, set, replicate}
+use lib.ListN.{length, getD, set, replicate}
 use Rattle.numbers.specs.Places.{places}
 
 module _ {A : Type 0} (unused : A) (thing : ℕ → A) where
@@ -13,6 +13,13 @@ module _ {A : Type 0} (unused : A) (thing : ℕ → A) where
   unfolding places
   none-placed k zero = refl
   none-placed k (suc n) = rw (none-placed k n)
+
+  -- as many places as were asked for
+  pub length-places : (k count n : ℕ) → length (places unused thing k count n) ≡ n
+  unfolding places
+  length-places k count zero = refl
+  length-places k zero (suc n) = ap suc (length-places k zero n)
+  length-places k (suc count) (suc n) = ap suc (length-places (k + 1) count n)
 
   -- one more goes to the next place
   pub placed : (k i n : ℕ) → i < n → set (places unused thing k i n) i (thing (k + i)) ≡ places unused thing k (i + 1) n

@@ -20,3 +20,8 @@ then (refused refusal) step = refused refusal
 abbrev pub refusalIn : {A : Type 0} → Answer A → ℕ
 refusalIn (given a) = 0
 refusalIn (refused n) = n
+
+-- what lent memory holds after a call that answers what it is to hold: in a refusal, what it held before
+abbrev pub leftIn : {A : Type 0} → A → Answer A → A
+leftIn before (given after) = after
+leftIn before (refused n) = before

@@ -91,3 +91,8 @@ module _ (bytes : List ℕ) where
   pub read-refused-8 : Exactly (readOf bytes ≡ refused 8) ((has-length ≡ true) × ((has-tags ≡ true) × ((isCalendar calendar ≡ true) × ((has-year ≡ true) × (has-own ≡ false)))))
   unfolding readOf
   read-refused-8 = after (passes 6 _ _ 8 (λ e. omega (arith, e))) (after (passes 7 _ _ 8 (λ e. omega (arith, e))) (after (passes 1 _ _ 8 (λ e. omega (arith, e))) (after (passes 2 _ _ 8 (λ e. omega (arith, e))) (refuses 8 _ _ (not-refused 8 own)))))
+
+  -- no refusal is 0
+  pub read-not-0 : readOf bytes ≡ refused 0 → ⊥
+  unfolding readOf
+  read-not-0 = never 6 _ has-length 0 (λ e. omega (arith, e)) (never 7 _ has-tags 0 (λ e. omega (arith, e)) (never 1 _ (isCalendar calendar) 0 (λ e. omega (arith, e)) (never 2 _ has-year 0 (λ e. omega (arith, e)) (never 8 _ has-own 0 (λ e. omega (arith, e)) (not-refused 0 own)))))

@@ -8,12 +8,12 @@ use lib.ListN.{length, getD, take, drop}
 use lib.Seq.{take-length}
 use borrow.Author.Tests.{le-leb, eq-eqb}
 use Rattle.numbers.specs.Answer.{Answer, given, refused, need, then, refusalIn}
-use Rattle.numbers.proofs.Answers.{Exactly, after, gives, fails, holds, one-given, then-needs, never, not-refused, struct-refused, struct-given}
+use Rattle.numbers.proofs.Answers.{Exactly, after, gives, fails, holds, one-given, then-needs, struct-refused, struct-given}
 use Rattle.asked.specs.Asked.{isCalendar, rulesFor, isCovered}
 use Rattle.calendar.specs.declared.YearAnswer.{YearAnswer}
-use Rattle.calendar.specs.Years.{yearIn, yearOf}
+use Rattle.calendar.specs.Years.{yearOf}
 use Rattle.calendar.specs.Answers.{yearAnswer}
-use Rattle.calendar.proofs.Refusals.{year-number}
+use Rattle.calendar.proofs.Refusals.{not-0, year-refuses}
 use Rattle.record.specs.declared.Fields.{Fields}
 use Rattle.record.specs.declared.RecordAnswer.{RecordAnswer}
 use Rattle.record.specs.Tagged.{fieldBytes, numbersOf, tagsAt, numbersAt, same}
@@ -22,14 +22,11 @@ use Rattle.record.specs.Room.{fieldsOf, acceptedOf}
 use Rattle.record.specs.Answers.{recordAnswer}
 use Rattle.record.proofs.YearFields.{all-bytes}
 use Rattle.record.proofs.Same.{one-same, not-same}
+use Rattle.record.proofs.Refusals.{read-not-0}
 
 fields-number : (a : Answer Fields) → recordAnswer a .refusal ≡ refusalIn a
 fields-number (given x) = refl
 fields-number (refused n) = refl
-
--- no refusal of a calendar or a year is 0
-not-0 : {A : Type 0} (a b : Bool) (v : A) → need a 1 (need b 2 (given v)) ≡ refused 0 → ⊥
-not-0 a b v = never 1 _ a 0 (λ e. omega (arith, e)) (never 2 _ b 0 (λ e. omega (arith, e)) (not-refused 0 v))
 
 -- ---- the rule's fields of a year
 
@@ -43,15 +40,9 @@ module _ (c y : ℕ) where
 
   module _ (x : YearAnswer) (e : x ≡ yearAnswer (yearOf c y)) where
     -- they are refused as the year is
-    pub year-refuses : (x .refusal ≡ 0 → ⊥) → recordAnswer (refused (x .refusal)) ≡ recordAnswer (fieldsOf c y)
+    pub fields-refused : (x .refusal ≡ 0 → ⊥) → recordAnswer (refused (x .refusal)) ≡ recordAnswer (fieldsOf c y)
     unfolding yearOf fieldsOf
-    year-refuses h =
-        let refuses : yearOf c y ≡ refused (x .refusal) = struct-refused yearAnswer (λ x. x .refusal) (λ x. x .year) year-number (λ v. refl) x (yearOf c y) e h in
-        ap recordAnswer (sym (ap (λ a. then a (λ x. given (fieldsIn c y))) refuses) ∙ then-needs (isCalendar c) covered 1 2 _ _)
-
-    pub year-gives : x .refusal ≡ 0 → yearOf c y ≡ given (x .year)
-    unfolding yearOf
-    year-gives h = struct-given yearAnswer (λ x. x .refusal) (λ x. x .year) year-number (λ v. refl) x (yearOf c y) e (not-0 (isCalendar c) covered (yearIn (rulesFor c) y)) h
+    fields-refused h = ap recordAnswer (sym (ap (λ a. then a (λ x. given (fieldsIn c y))) (year-refuses c y x e h)) ∙ then-needs (isCalendar c) covered 1 2 _ _)
 
   module _ (x : RecordAnswer) (e : x ≡ recordAnswer (fieldsOf c y)) where
     pub fields-refuse : (x .refusal ≡ 0 → ⊥) → fieldsOf c y ≡ refused (x .refusal)
@@ -108,3 +99,11 @@ module _ (found : Fields) where
     agrees first leap long =
         let known : fieldsIn (found .calendar) (found .year) ≡ own = one-given _ _ (fields-known (found .calendar) (found .year) own .only-if e .1 .1) in
         accepted-then (given own) e ∙ holds 8 _ _ (one-same _ _ (rw (first, leap, long, ap (λ (x : Fields). x .calendar) known, ap (λ (x : Fields). x .year) known)))
+
+-- what the answer to bytes tells: another number than 0 is the refusal's, and with 0 the fields are given
+module _ (bytes : List ℕ) (x : RecordAnswer) (e : x ≡ recordAnswer (readOf bytes)) where
+  pub read-refuses : (x .refusal ≡ 0 → ⊥) → readOf bytes ≡ refused (x .refusal)
+  read-refuses h = struct-refused recordAnswer (λ x. x .refusal) (λ x. x .fields) fields-number (λ v. refl) x (readOf bytes) e h
+
+  pub read-gives : x .refusal ≡ 0 → readOf bytes ≡ given (x .fields)
+  read-gives h = struct-given recordAnswer (λ x. x .refusal) (λ x. x .fields) fields-number (λ v. refl) x (readOf bytes) e (read-not-0 bytes) h

@@ -1,6 +1,4 @@
 -- What each answer stands for.
-use mathlib.Core.List.{List}
-use Prim.Native.Nat.{ℕ}
 use Rattle.numbers.specs.Answer.{Answer, given, refused}
 use Rattle.record.specs.declared.Fields.{Fields}
 use Rattle.record.specs.declared.RecordAnswer.{RecordAnswer}
@@ -13,8 +11,3 @@ noFields = record { calendar = 0; year = 0; «first_day» = 0; leap = 0; «long_
 abbrev pub recordAnswer : Answer Fields → RecordAnswer
 recordAnswer (given x) = record { refusal = 0; fields = x }
 recordAnswer (refused n) = record { refusal = n; fields = noFields }
-
--- what a lent buffer holds after a call: in a refusal what it held before
-abbrev pub leftIn : List ℕ → Answer (List ℕ) → List ℕ
-leftIn before (given after) = after
-leftIn before (refused n) = before

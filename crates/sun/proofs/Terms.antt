@@ -1,8 +1,8 @@
 -- Laws of the true terms: what every printed row has, and how the search for a moment's term goes.
-use mathlib.Core.Path.{_≡_, refl}
+use mathlib.Core.Path.{_≡_, refl, sym, ap, _∙_}
 use mathlib.Core.Bool.{Bool, true, false, _&&_}
 use mathlib.Core.List.{List, [], _∷_, map, reverse}
-use Prim.Native.Nat.{ℕ, suc, _+_, _-_, _<_, _≤_}
+use Prim.Native.Nat.{ℕ, zero, suc, _+_, _-_, _*_, _<_, _≤_}
 use native.Mathlib.Nat.{mod-lt}
 use native.Mathlib.Numerals.{add-one}
 use native.Mathlib.Omega.{arith}
@@ -12,12 +12,13 @@ use lib.IntN.{natAbs}
 use lib.ListN.{length, getD, take, drop}
 use lib.Seq.{drop-cons}
 use mir.Facts.{and-yes}
-use Rattle.numbers.proofs.Tests.{every, at-each-row}
+use Rattle.numbers.proofs.Tests.{every, at-each, at-each-row}
 use Rattle.units.specs.declared.Byo.{Byo}
 use Rattle.units.specs.Units.{dayFen, fenToByo}
 use Rattle.sun.specs.declared.SunRow.{SunRow}
 use Rattle.sun.specs.declared.Place.{Place}
 use Rattle.sun.specs.Sun.{solsticeRow, laterRows, sunRows, noRow, termOf, place, placeIn, year, sunPlace}
+use Rattle.sun.specs.Room.{lasting}
 
 pub row-count : length sunRows ≡ 24
 unfolding laterRows
@@ -73,10 +74,95 @@ unfolding placeIn
 place-next l i x h over =
     rw (drop-cons l (i + 1) noRow, le-ltb x (termOf (getD l i noRow) .span .0) over, placeIn) (rw (add-one (i + 1)))
 
--- how long the terms of some rows last together
-abbrev lasting : List SunRow → ℕ
-lasting [] = 0
-lasting (r ∷ rs) = termOf r .span .0 + lasting rs
+-- one row more lasts as much longer as its term
+lasting-next : (l : List SunRow) (n : ℕ) → n < length l → lasting (take (n + 1) l) ≡ lasting (take n l) + termOf (getD l n noRow) .span .0
+lasting-next [] n h = absurd (omega arith)
+lasting-next (r ∷ rs) zero h = omega arith
+lasting-next (r ∷ rs) (suc n) h =
+    let e : suc n + 1 ≡ suc (n + 1) = omega arith in
+    rw e (omega (arith, lasting-next rs n (omega arith)))
+
+-- where a term starts, counted from the solstice
+abbrev pub startOf : ℕ → ℕ
+startOf n = lasting (take n sunRows)
+
+pub start-next : (n : ℕ) → n < 24 → startOf (n + 1) ≡ startOf n + termOf (getD sunRows n noRow) .span .0
+start-next n h = lasting-next sunRows n (omega (arith, row-count))
+
+-- past so many terms the search goes on from there
+passed : (n x : ℕ) → n < 24 → startOf n ≤ x → placeIn (getD sunRows n noRow) (drop (n + 1) sunRows) (x - startOf n) ≡ placeIn solsticeRow laterRows x
+passed zero x h from = let e : x - startOf 0 ≡ x = omega arith in rw e
+passed (suc n) x h from =
+    let next : startOf (suc n) ≡ startOf n + termOf (getD sunRows n noRow) .span .0 = sym (ap startOf (add-one n)) ∙ start-next n (omega arith) in
+    let rest : x - startOf n - termOf (getD sunRows n noRow) .span .0 ≡ x - startOf (suc n) = omega (arith, next) in
+    sym (place-next sunRows n (x - startOf n) (omega (arith, row-count)) (omega (arith, next, from)) ∙ rw (add-one n, rest))
+    ∙ passed n x (omega arith) (omega (arith, next, from))
+
+-- what is found between a term's start and the next one's
+pub place-between : (n x : ℕ) → n < 24 → startOf n ≤ x → x < startOf (n + 1) → place (termOf (getD sunRows n noRow)) (x - startOf n) ≡ placeIn solsticeRow laterRows x
+place-between n x h from to =
+    sym (place-here (getD sunRows n noRow) (drop (n + 1) sunRows) (x - startOf n) (omega (arith, start-next n h, from, to))) ∙ passed n x h from
+
+-- half a mean term after the mean start of each term stands between its start and the next one's, by one test over the table
+abbrev halfTest : ℕ → Bool
+halfTest n = leb (2 * startOf n) ((2 * n + 1) * 1022685) && leb ((2 * n + 1) * 1022685) (2 * startOf (n + 1))
+
+pub record Half (n : ℕ) : Type 0 where
+  pub from : 2 * startOf n ≤ (2 * n + 1) * 1022685
+  pub to : (2 * n + 1) * 1022685 ≤ 2 * startOf (n + 1)
+
+pub half-between : (n : ℕ) → n < 24 → Half n
+unfolding every solsticeRow laterRows
+half-between n h =
+    let t = and-yes (leb (2 * startOf n) ((2 * n + 1) * 1022685)) (leb ((2 * n + 1) * 1022685) (2 * startOf (n + 1))) (at-each halfTest 0 24 tt n (omega arith) (omega arith)) in
+    record { from = leb→le _ _ (t .0); to = leb→le _ _ (t .1) }
+
+year-start : startOf 24 ≡ 24544440
+unfolding solsticeRow laterRows
+year-start = refl
+
+-- term n is the one that starts nearest to a moment of the year by the mean
+module _ (x n : ℕ) (low : n * 2045370 ≤ 2 * x + 1022685) (high : 2 * x + 1022685 < (n + 1) * 2045370) (inside : x < 24544440) where
+  -- if it has started, it is one of the year's ..
+  pub started : startOf n ≤ x → n < 24
+  started from = by (ltb n 24) refl
+    where
+      by : (b : Bool) → ltb n 24 ≡ b → n < 24
+      by true e = ltb-true n 24 e
+      by false e =
+          let last : n ≡ 24 = omega (arith, ltb-false n 24 e, low, inside) in
+          absurd (omega (arith, ap startOf last, year-start, from, inside))
+
+  -- .. and holds the moment
+  pub at-nearest : startOf n ≤ x → place (termOf (getD sunRows n noRow)) (x - startOf n) ≡ placeIn solsticeRow laterRows x
+  at-nearest from = let h = started from in place-between n x h from (omega (arith, half-between n h .to, high))
+
+  -- if it has not, there is one before it ..
+  pub not-first : x < startOf n → 1 ≤ n
+  not-first to = by n refl
+    where
+      by : (m : ℕ) → n ≡ m → 1 ≤ n
+      by zero e = absurd (omega (arith, ap startOf e, to))
+      by (suc m) e = omega (arith, e)
+
+  pub before-few : n - 1 < 24
+  before-few = omega (arith, low, inside)
+
+  -- .. which ends where it starts ..
+  pub before-ends : x < startOf n → startOf n ≡ startOf (n - 1) + termOf (getD sunRows (n - 1) noRow) .span .0
+  before-ends to =
+      let again : n - 1 + 1 ≡ n = omega (arith, not-first to) in
+      rw again at (start-next (n - 1) before-few)
+
+  -- .. and holds the moment
+  pub before-started : x < startOf n → startOf (n - 1) ≤ x
+  before-started to = omega (arith, half-between (n - 1) before-few .from, low, not-first to)
+
+  pub before-nearest : x < startOf n → place (termOf (getD sunRows (n - 1) noRow)) (x + termOf (getD sunRows (n - 1) noRow) .span .0 - startOf n) ≡ placeIn solsticeRow laterRows x
+  before-nearest to =
+      let again : n - 1 + 1 ≡ n = omega (arith, not-first to) in
+      let into : x + termOf (getD sunRows (n - 1) noRow) .span .0 - startOf n ≡ x - startOf (n - 1) = omega (arith, before-ends to, before-started to) in
+      rw into (place-between (n - 1) x before-few (before-started to) (rw again to))
 
 -- what is found: a row's term, with what holds of every row, and a place within its span
 pub record Found (P : SunRow → Type 0) (p : Place) : Type 0 where
@@ -98,7 +184,7 @@ found-in P r (q ∷ qs) x rows h =
     by-span false e later = later (ltb-false x (termOf r .span .0) e)
 
 -- the 24 spans fill the year
-year-filled : lasting sunRows ≡ fenToByo year .0
+pub year-filled : lasting sunRows ≡ fenToByo year .0
 unfolding solsticeRow laterRows
 year-filled = refl
 

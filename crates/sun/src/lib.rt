@@ -3,10 +3,11 @@ use units::BYO_IN_FEN;
 use units::Byo;
 use units::Fen;
 ghost use mathlib.Core.Path.{_≡_};
-ghost use Prim.Native.Nat.{_<_};
-ghost use lib.ListN.{getD};
-ghost use Rattle.sun.specs.Sun.{solsticeRow, laterRows, sunRows, noRow, termOf, placeIn, afterDays, onDay, sunOf};
-ghost use Rattle.sun.specs.Room.{Narrow};
+ghost use Prim.Native.Nat.{_<_, _≤_};
+ghost use lib.ListN.{getD, take};
+ghost use Rattle.units.specs.Units.{fenToByo};
+ghost use Rattle.sun.specs.Sun.{solsticeRow, laterRows, sunRows, noRow, termOf, placeIn, year, afterDays, onDay, sunOf};
+ghost use Rattle.sun.specs.Room.{lasting, Narrow};
 
 // A row as the page prints it: days, fen and byo of a span; rate, first and sum in 1/10,000 fen.
 pub struct SunRow(pub u64, pub u64, pub u64, pub i64, pub i64, pub i64);
@@ -25,42 +26,42 @@ pub struct Place {
     pub into: Byo,
 }
 
-// From a solstice to the next, in byo.
+// From a solstice to the next, in byo, and the mean of its 24 terms.
 const YEAR: u64 = 3068055 * BYO_IN_FEN;
 
-// The 24 true terms from the solstice (003, Tables 1 and 2).
-const ROWS: [SunRow; 24] = [
-    SunRow(14, 4235, 5, -0_3695, 33_4511, 0),
-    SunRow(14, 5235, 5, -0_3606, 28_0389, 449_0000),
-    SunRow(14, 6235, 5, -0_3519, 22_6998, 823_0000),
-    SunRow(14, 7235, 5, -0_4068, 17_8923, 1122_0000),
-    SunRow(15, 35, 5, -0_3998, 11_7966, 1346_0000),
-    SunRow(15, 1235, 5, -0_3998, 5_7986, 1481_0000),
-    SunRow(15, 2435, 5, -0_3779, -0_2433, 1526_0000),
-    SunRow(15, 3635, 5, -0_3634, -6_1254, 1481_0000),
-    SunRow(15, 4835, 5, -0_2987, -12_2048, 1346_0000),
-    SunRow(15, 5835, 5, -0_2919, -16_9060, 1122_0000),
-    SunRow(15, 6835, 5, -0_2854, -21_5362, 823_0000),
-    SunRow(15, 7835, 5, -0_2854, -26_0498, 449_0000),
-    SunRow(15, 7835, 5, 0_2854, -30_3119, 0),
-    SunRow(15, 6835, 5, 0_2919, -25_8126, -449_0000),
-    SunRow(15, 5835, 5, 0_2987, -21_2454, -823_0000),
-    SunRow(15, 4835, 5, 0_3634, -17_0296, -1122_0000),
-    SunRow(15, 3635, 5, 0_3779, -11_4744, -1346_0000),
-    SunRow(15, 2435, 5, 0_3779, -5_6429, -1481_0000),
-    SunRow(15, 1235, 5, 0_3998, 0_1432, -1526_0000),
-    SunRow(15, 35, 5, 0_4068, 6_1488, -1481_0000),
-    SunRow(14, 7235, 5, 0_3519, 12_6336, -1346_0000),
-    SunRow(14, 6235, 5, 0_3606, 17_8043, -1122_0000),
-    SunRow(14, 5235, 5, 0_3695, 23_0590, -823_0000),
-    SunRow(14, 4235, 5, 0_3695, 28_4618, -449_0000),
-];
+const MEAN_TERM: u64 = YEAR / 24;
 
+// The 24 true terms from the solstice (003, Tables 1 and 2).
 fn row_of(number: usize) -> SunRow
     requires { ⌜ number < 24 ⌝ }
     ensures { λ r. ⌜ r ≡ getD sunRows number noRow ⌝ }
 {
-    ROWS[number]
+    match number {
+        0 => SunRow(14, 4235, 5, -0_3695, 33_4511, 0),
+        1 => SunRow(14, 5235, 5, -0_3606, 28_0389, 449_0000),
+        2 => SunRow(14, 6235, 5, -0_3519, 22_6998, 823_0000),
+        3 => SunRow(14, 7235, 5, -0_4068, 17_8923, 1122_0000),
+        4 => SunRow(15, 35, 5, -0_3998, 11_7966, 1346_0000),
+        5 => SunRow(15, 1235, 5, -0_3998, 5_7986, 1481_0000),
+        6 => SunRow(15, 2435, 5, -0_3779, -0_2433, 1526_0000),
+        7 => SunRow(15, 3635, 5, -0_3634, -6_1254, 1481_0000),
+        8 => SunRow(15, 4835, 5, -0_2987, -12_2048, 1346_0000),
+        9 => SunRow(15, 5835, 5, -0_2919, -16_9060, 1122_0000),
+        10 => SunRow(15, 6835, 5, -0_2854, -21_5362, 823_0000),
+        11 => SunRow(15, 7835, 5, -0_2854, -26_0498, 449_0000),
+        12 => SunRow(15, 7835, 5, 0_2854, -30_3119, 0),
+        13 => SunRow(15, 6835, 5, 0_2919, -25_8126, -449_0000),
+        14 => SunRow(15, 5835, 5, 0_2987, -21_2454, -823_0000),
+        15 => SunRow(15, 4835, 5, 0_3634, -17_0296, -1122_0000),
+        16 => SunRow(15, 3635, 5, 0_3779, -11_4744, -1346_0000),
+        17 => SunRow(15, 2435, 5, 0_3779, -5_6429, -1481_0000),
+        18 => SunRow(15, 1235, 5, 0_3998, 0_1432, -1526_0000),
+        19 => SunRow(15, 35, 5, 0_4068, 6_1488, -1481_0000),
+        20 => SunRow(14, 7235, 5, 0_3519, 12_6336, -1346_0000),
+        21 => SunRow(14, 6235, 5, 0_3606, 17_8043, -1122_0000),
+        22 => SunRow(14, 5235, 5, 0_3695, 23_0590, -823_0000),
+        _ => SunRow(14, 4235, 5, 0_3695, 28_4618, -449_0000),
+    }
 }
 
 fn true_term(number: usize) -> Term
@@ -77,26 +78,59 @@ fn true_term(number: usize) -> Term
     }
 }
 
-// The true term that holds a moment counted from the solstice.
+// The byo from the solstice to the start of a term: the spans before it together.
+fn start_of(number: usize) -> u64
+    requires { ⌜ number ≤ 24 ⌝ }
+    ensures { λ r. ⌜ r ≡ lasting (take number sunRows) ⌝ }
+{
+    match number {
+        0 => 0,
+        1 => 974_685,
+        2 => 1_957_370,
+        3 => 2_948_055,
+        4 => 3_946_740,
+        5 => 4_955_025,
+        6 => 5_972_910,
+        7 => 7_000_395,
+        8 => 8_037_480,
+        9 => 9_084_165,
+        10 => 10_138_850,
+        11 => 11_201_535,
+        12 => 12_272_220,
+        13 => 13_342_905,
+        14 => 14_405_590,
+        15 => 15_460_275,
+        16 => 16_506_960,
+        17 => 17_544_045,
+        18 => 18_571_530,
+        19 => 19_589_415,
+        20 => 20_597_700,
+        21 => 21_596_385,
+        22 => 22_587_070,
+        23 => 23_569_755,
+        _ => YEAR,
+    }
+}
+
+// The true term that holds a moment counted from the solstice. Each starts within half a mean term of the mean one of its number, so it is the one
+// that starts nearest to the moment by the mean, or the one before.
 fn place_of(since_solstice: Byo) -> Place
+    requires { ⌜ «since_solstice» .0 < fenToByo year .0 ⌝ }
     ensures { λ r. ⌜ r ≡ placeIn solsticeRow laterRows («since_solstice» .0) ⌝ }
 {
-    let mut number: usize = 0;
-    let mut into = since_solstice.0;
-    while number < 23 {
-        let term = true_term(number);
-        if into < term.span.0 {
-            return Place {
-                term: term,
-                into: Byo(into),
-            };
-        }
-        into -= term.span.0;
-        number += 1;
+    let at = since_solstice.0;
+    let nearest = ((2 * at + MEAN_TERM) / (2 * MEAN_TERM)) as usize;
+    let start = start_of(nearest);
+    if start <= at {
+        return Place {
+            term: true_term(nearest),
+            into: Byo(at - start),
+        };
     }
+    let term = true_term(nearest - 1);
     Place {
-        term: true_term(23),
-        into: Byo(into),
+        term,
+        into: Byo(at + term.span.0 - start),
     }
 }
 

@@ -1,36 +1,22 @@
--- `moon::row_of` meets its contract: its two tables are the definition's, row by row.
+-- `moon::row_of` meets its contract: each half has its own table.
+use mathlib.Core.Path.{sym, ap, _∙_}
 use borrow.Author.Needs.{needs}
-use Rattle.moon.specs.Moon.{upperRows, lowerRows}
+use lib.ListN.{getD}
+use Rattle.moon.specs.Moon.{rows, noRow}
 use Rattle.moon.proofs.row_of.Statement.{statement}
 use Rattle.moon.proofs.row_of.Tie as tie
 
-mul-result : tie.Need-mul-result
-mul-result c = search needs
+upper-row-requires : tie.Need-upper-row-requires
+upper-row-requires c κs = search needs
 
-array-copy-out-result : tie.Need-array-copy-out-result
-array-copy-out-result c = search needs
-
-mul-result-2 : tie.Need-mul-result-2
-mul-result-2 c = search needs
-
-array-copy-out-result-2 : tie.Need-array-copy-out-result-2
-array-copy-out-result-2 c = search needs
+lower-row-requires : tie.Need-lower-row-requires
+lower-row-requires c κs = search needs
 
 returns : tie.Need-returns
-unfolding upperRows
-returns c = rw (c .before .if1 .taken)
+returns c = c .upper-row .ensures ∙ ap (λ upper. getD (rows upper) (c .before .before .args .day) noRow) (sym (c .before .if1 .taken))
 
 returns-2 : tie.Need-returns-2
-unfolding lowerRows
-returns-2 c = rw (c .before .if1 .left)
+returns-2 c = c .lower-row .ensures ∙ ap (λ upper. getD (rows upper) (c .before .before .args .day) noRow) (sym (c .before .if1 .left))
 
 pub row-of-spec : {M : Type 1} → statement M
-row-of-spec =
-    tie.close
-    (tie.spec
-    mul-result
-    array-copy-out-result
-    mul-result-2
-    array-copy-out-result-2
-    returns
-    returns-2)
+row-of-spec = tie.close (tie.spec upper-row-requires lower-row-requires returns returns-2)

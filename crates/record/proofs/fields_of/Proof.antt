@@ -4,8 +4,9 @@ use native.Mathlib.Omega.{arith}
 use borrow.Author.Needs.{needs}
 use Rattle.numbers.specs.Answer.{given}
 use Rattle.calendar.specs.Years.{yearOf}
+use Rattle.calendar.proofs.Refusals.{year-gives}
 use Rattle.record.specs.Record.{fieldsIn}
-use Rattle.record.proofs.Steps.{year-refuses, year-gives}
+use Rattle.record.proofs.Steps.{fields-refused}
 use Rattle.record.proofs.CoveredFields.{answered-small, fields-told}
 use Rattle.record.proofs.fields_of.Statement.{statement}
 use Rattle.record.proofs.fields_of.Tie as tie
@@ -17,7 +18,7 @@ refused-with-requires : tie.Need-refused-with-requires
 refused-with-requires c κs = search needs
 
 returns : tie.Need-returns
-returns c = c .refused-with .ensures ∙ year-refuses _ _ _ (c .before .before .before .year-of .ensures) (c .before .if1 .taken)
+returns c = c .refused-with .ensures ∙ fields-refused _ _ _ (c .before .before .before .year-of .ensures) (c .before .if1 .taken)
 
 array-copy-out-first : tie.Need-array-copy-out-first
 array-copy-out-first c = search needs

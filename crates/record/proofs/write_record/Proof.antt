@@ -2,8 +2,7 @@
 use mathlib.Core.Path.{sym, ap, _∙_}
 use borrow.Author.Needs.{needs}
 use borrow.Author.Tests.{lt-leb}
-use Rattle.numbers.specs.Answer.{refusalIn}
-use Rattle.record.specs.Answers.{leftIn}
+use Rattle.numbers.specs.Answer.{refusalIn, leftIn}
 use Rattle.record.proofs.Refusals.{write-refused-6}
 use Rattle.record.proofs.Steps.{fields-refuse, fields-give, write-then, copied}
 use Rattle.record.proofs.write_record.Statement.{statement}

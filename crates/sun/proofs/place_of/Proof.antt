@@ -1,68 +1,96 @@
--- `sun::place_of` meets its contract. The loop's invariant: the search from this row at what is left is the search from the solstice.
-use mathlib.Core.Path.{_≡_, refl, sym, _∙_}
-use Prim.Native.Nat.{_≤_, _+_, _-_}
+-- `sun::place_of` meets its contract: the term that starts nearest by the mean holds the moment if it has started, and else the one before it does.
+use mathlib.Core.Path.{_≡_, ap}
+use Prim.Native.Nat.{ℕ, _+_, _-_, _*_, _/_, _<_, _≤_}
 use native.Mathlib.Omega.{arith}
-use lib.ListN.{getD, drop}
-use Rattle.sun.specs.Sun.{solsticeRow, laterRows, sunRows, noRow, placeIn}
-use Rattle.sun.proofs.Terms.{row-count, place-here, place-next}
+use borrow.Author.Needs.{needs}
+use lib.ListN.{getD}
+use Rattle.sun.specs.Sun.{sunRows, noRow, termOf}
+use Rattle.sun.proofs.Terms.{fair, startOf, started, at-nearest, not-first, before-few, before-ends, before-started, before-nearest}
 use Rattle.sun.proofs.place_of.Statement.{statement}
 use Rattle.sun.proofs.place_of.Tie as tie
 
-abbrev Inv-loop : tie.InvT-loop
-Inv-loop number₀ into₀ number into =
-    (number ≤ 23) × (placeIn (getD sunRows number noRow) (drop (number + 1) sunRows) into ≡ placeIn solsticeRow laterRows into₀)
+-- the term that starts nearest
+abbrev near : tie.Start → ℕ
+near c = (2 * c .args .since-solstice .0 + 1022685) / 2045370
 
-abbrev μ-loop : tie.MeasureT-loop
-μ-loop number₀ into₀ number into = 23 - number
+low : (c : tie.Start) → near c * 2045370 ≤ 2 * c .args .since-solstice .0 + 1022685
+low c = omega arith
 
-loop-holds : tie.Need-loop-holds Inv-loop μ-loop
-loop-holds c = (omega arith, refl)
+high : (c : tie.Start) → 2 * c .args .since-solstice .0 + 1022685 < (near c + 1) * 2045370
+high c = omega arith
 
-true-term-requires : tie.Need-true-term-requires Inv-loop μ-loop
-true-term-requires c κs = omega arith
+inside : (c : tie.Start) → c .args .since-solstice .0 < 24544440
+inside c = c .pre
 
-returns : tie.Need-returns Inv-loop μ-loop
+mul-nearest : tie.Need-mul-nearest
+mul-nearest c = search needs
+
+add-nearest : tie.Need-add-nearest
+add-nearest c = search needs
+
+mul-nearest-2 : tie.Need-mul-nearest-2
+mul-nearest-2 c = search needs
+
+div-nearest : tie.Need-div-nearest
+div-nearest c = search needs
+
+start-of-requires : tie.Need-start-of-requires
+start-of-requires c κs = search needs
+
+-- .. has started
+here : (c : tie.Then1) → startOf (near (c .before .before)) ≤ c .before .before .args .since-solstice .0
+here c = rw (c .before .start-of .ensures) at (c .if1 .taken)
+
+-- .. or not yet
+later : (c : tie.Else1) → c .before .before .args .since-solstice .0 < startOf (near (c .before .before))
+later c = rw (c .before .start-of .ensures) at (c .if1 .left)
+
+true-term-requires : tie.Need-true-term-requires
+true-term-requires c κs = started _ _ (low (c .before .before)) (high (c .before .before)) (inside (c .before .before)) (here c)
+
+returns : tie.Need-returns
 returns c =
-    let l = c .before .before .before .before .loop in
-    let t = c .before .before .true-term in
-    let inside = rw (t .ensures) at (c .if1 .taken) in
-    rw (t .ensures)
-    (sym (place-here (getD sunRows (l .number) noRow) (drop (l .number + 1) sunRows) (l .into) inside) ∙ l .inv .1)
+    let s = c .before .before .before in
+    rw (c .true-term .ensures, c .before .before .start-of .ensures) (at-nearest _ _ (low s) (high s) (inside s) (here (c .before)))
 
-add-number : tie.Need-add-number Inv-loop μ-loop
-add-number c = omega arith
+sub-true-term : tie.Need-sub-true-term
+sub-true-term c = let s = c .before .before in not-first _ _ (low s) (high s) (inside s) (later c)
 
-loop-less : tie.Need-loop-less Inv-loop μ-loop
-loop-less c = omega arith
+true-term-requires-2 : tie.Need-true-term-requires-2
+true-term-requires-2 c κs = search needs
 
-loop-again : tie.Need-loop-again Inv-loop μ-loop
-loop-again c =
-    let l = c .before .before .before .before .before .loop in
-    let t = c .before .before .before .true-term in
-    let over = rw (t .ensures) at (c .before .if1 .left) in
-    (omega arith, rw (t .ensures) (sym (place-next sunRows (l .number) (l .into) (omega (arith, row-count)) over) ∙ l .inv .1))
+-- the term before lasts as long as its row says
+span : (c : tie.After-true-term2) → c .true-term2 .result .span .0 ≡ termOf (getD sunRows (near (c .before .before .before) - 1) noRow) .span .0
+span c = ap (λ t. t .span .0) (c .true-term2 .ensures)
 
-true-term-requires-2 : tie.Need-true-term-requires-2 Inv-loop μ-loop
-true-term-requires-2 c κs = omega arith
+add-t6 : tie.Need-add-t6
+add-t6 c =
+    let s = c .before .before .before .before in
+    omega (arith, span (c .before), inside s, fair _ (before-few _ _ (low s) (high s) (inside s)))
 
-returns-2 : tie.Need-returns-2 Inv-loop μ-loop
-unfolding placeIn laterRows
+sub-t7 : tie.Need-sub-t7
+sub-t7 c =
+    let s = c .before .before .before .before in
+    omega (arith, span (c .before), c .before .before .before .start-of .ensures, before-ends _ _ (low s) (high s) (inside s) (later (c .before .before)), before-started _ _ (low s) (high s) (inside s) (later (c .before .before)))
+
+returns-2 : tie.Need-returns-2
 returns-2 c =
-    let l = c .before .before .loop in
-    let last : l .number ≡ 23 = omega arith in
-    rw (c .true-term2 .ensures) (rw last at (l .inv .1))
+    let s = c .before .before .before .before in
+    rw (c .before .true-term2 .ensures, c .before .before .before .start-of .ensures) (before-nearest _ _ (low s) (high s) (inside s) (later (c .before .before)))
 
 pub place-of-spec : {M : Type 1} → statement M
 place-of-spec =
     tie.close
     (tie.spec
-    Inv-loop
-    μ-loop
-    loop-holds
+    mul-nearest
+    add-nearest
+    mul-nearest-2
+    div-nearest
+    start-of-requires
     true-term-requires
     returns
-    add-number
-    loop-less
-    loop-again
+    sub-true-term
     true-term-requires-2
+    add-t6
+    sub-t7
     returns-2)
