@@ -52,10 +52,34 @@ impl Calendar {
         }
     }
 
+    /// The year that the month of the mid-term is in.
+    pub fn year_of_mid_term(self, mid_term: i64) -> i64 {
+        match self {
+            Calendar::Senmyo => senmyo::year_of_mid_term(mid_term),
+            Calendar::Genka => genka::year_of_mid_term(mid_term),
+        }
+    }
+
+    pub fn last_mid_term_by(self, day: i64) -> i64 {
+        match self {
+            Calendar::Senmyo => senmyo::last_mid_term_by(day),
+            Calendar::Genka => genka::last_mid_term_by(day),
+        }
+    }
+
     pub fn first_day(self, new_moon: i64) -> i64 {
         match self {
             Calendar::Senmyo => senmyo::first_day(new_moon),
             Calendar::Genka => genka::first_day(new_moon),
+        }
+    }
+
+    /// The last new moon whose month may have begun by the day; the month before
+    /// it certainly has.
+    pub fn last_new_moon_by(self, day: i64) -> i64 {
+        match self {
+            Calendar::Senmyo => senmyo::last_new_moon_by(day),
+            Calendar::Genka => genka::last_new_moon_by(day),
         }
     }
 

@@ -78,6 +78,21 @@ impl Eclipse {
     pub fn happens(&self) -> bool {
         !matches!(self.size, Size::None)
     }
+
+    /// The full moon's day and fen, side and distance, and the size's numbers.
+    pub fn numbers(&self) -> [i64; 8] {
+        let [kind, parts, remainder, strong] = self.size.numbers();
+        [
+            senmyo::day_number(self.full_moon.whole_days()),
+            self.full_moon.of_the_day().0,
+            self.side.number(),
+            self.distance.0,
+            kind,
+            parts,
+            remainder,
+            strong,
+        ]
+    }
 }
 
 pub fn asked(calendar: u64, year: u64, month: u64, leap: bool) -> Result<Eclipse, Refusal> {

@@ -25,12 +25,20 @@ pub fn mid_term_number(mid_term: i64) -> i64 {
     mid_term.rem_euclid(12) + 1
 }
 
+pub fn year_of_mid_term(mid_term: i64) -> i64 {
+    floor(mid_term, 12) - YEARS_BEFORE_YEAR_ZERO
+}
+
 pub fn mid_term_day(mid_term: i64) -> i64 {
     day_number(mid_term_whole_days(mid_term))
 }
 
 pub fn mid_term_whole_days(mid_term: i64) -> i64 {
     floor(MID_TERMS_SPAN * mid_term, MID_TERMS)
+}
+
+pub fn last_mid_term_by(day: i64) -> i64 {
+    floor(whole_days(day + 1) * MID_TERMS - 1, MID_TERMS_SPAN)
 }
 
 pub fn first_day(new_moon: i64) -> i64 {
@@ -45,6 +53,10 @@ pub fn full_moon(new_moon: i64) -> HalfParts {
     HalfParts(self::new_moon(new_moon).in_half_parts().0 + MONTH.in_half_parts().0 / 2)
 }
 
+pub fn last_new_moon_by(day: i64) -> i64 {
+    floor(whole_days(day + 1) * PARTS_IN_A_DAY - 1, MONTH.0)
+}
+
 pub fn new_moon_before(mid_term: i64) -> i64 {
     floor(
         MID_TERMS_SPAN * mid_term * PARTS_IN_A_DAY,
@@ -54,4 +66,8 @@ pub fn new_moon_before(mid_term: i64) -> i64 {
 
 pub fn day_number(whole_days: i64) -> i64 {
     whole_days - DAYS_BEFORE_DAY_NUMBER_ZERO
+}
+
+fn whole_days(day_number: i64) -> i64 {
+    day_number + DAYS_BEFORE_DAY_NUMBER_ZERO
 }

@@ -2,13 +2,20 @@
 //! one whole number of fen or half parts, divided once.
 
 use crate::calendar::Calendar;
-use crate::months::{self, Year};
+use crate::months::{self, signed, Year};
+use crate::refusal::Refusal;
 use crate::units::{Fen, HalfParts, FEN_IN_A_DAY, HALF_PARTS_IN_A_DAY};
 use crate::{eclipse, genka, senmyo};
 
 pub struct Moons {
     pub new: f64,
     pub full: f64,
+}
+
+pub fn asked(calendar: u64, year: u64, month: u64, leap: bool) -> Result<Moons, Refusal> {
+    let year = months::asked_year(calendar, year)?;
+    let month = year.month(signed(month), leap)?;
+    Ok(moons(year.calendar, month.new_moon))
 }
 
 pub fn moons(calendar: Calendar, new_moon: i64) -> Moons {

@@ -5,7 +5,6 @@ use crate::eclipse::{self, Eclipse};
 use crate::instants;
 use crate::months::{Month, Year};
 use crate::refusal::Refusal;
-use crate::senmyo;
 use crate::worked::Figure;
 
 pub fn year_table(year: &Year) -> String {
@@ -54,16 +53,8 @@ pub fn eclipse_lines(year: &Year) -> String {
 }
 
 fn eclipse_line(year: &Year, month: &Month, eclipse: &Eclipse) -> String {
-    let mut numbers = vec![
-        year.number,
-        month.number,
-        i64::from(month.leap),
-        senmyo::day_number(eclipse.full_moon.whole_days()),
-        eclipse.full_moon.of_the_day().0,
-        eclipse.side.number(),
-        eclipse.distance.0,
-    ];
-    numbers.extend(eclipse.size.numbers());
+    let mut numbers = vec![year.number, month.number, i64::from(month.leap)];
+    numbers.extend(eclipse.numbers());
     line(&numbers)
 }
 

@@ -1,32 +1,7 @@
-//! The peer: an independent working of the calendar rules in plain Rust.
-//!
-//! It is tested only, not proved, and shares nothing with the proved crates.
-//! It serves to write the files that say what the programs are expected to
-//! print. Where a program and the peer differ, the rules say which of them is
-//! to be mended; an expected file is never edited to settle it.
+//! The peer's program: prints what the programs are expected to print.
 
-mod answers;
-mod calendar;
-mod dates;
-mod eclipse;
-mod figures;
-mod genka;
-mod instants;
-mod lines;
-mod months;
-mod moon;
-mod record;
-mod records;
-mod refusal;
-mod rounding;
-mod run;
-mod runs;
-mod senmyo;
-mod sun;
-mod units;
-mod worked;
-
-use calendar::Calendar;
+use peer::calendar::{self, Calendar};
+use peer::{answers, figures, instants, lines, months, records, runs, worked};
 use std::env;
 use std::process::ExitCode;
 

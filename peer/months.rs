@@ -1,9 +1,9 @@
-//! A calendar as a list of months, numbered by the mid-terms they hold and
-//! cut into years at the Rain Waters.
+//! Years one after another as a list of months, numbered by the mid-terms they
+//! hold and cut into years at the Rain Waters.
 
 use crate::calendar::{self, Calendar};
 use crate::refusal::Refusal;
-use std::ops::Range;
+use std::ops::{Range, RangeInclusive};
 
 pub struct Month {
     pub new_moon: i64,
@@ -69,7 +69,11 @@ pub fn signed(number: u64) -> i64 {
 
 pub fn year(calendar_number: i64, year_number: i64) -> Result<Year, Refusal> {
     let calendar = calendar::numbered(calendar_number)?;
-    year_among(covered_years(calendar), year_number)
+    if calendar.years().contains(&year_number) {
+        year_among(years(calendar, year_number..=year_number), year_number)
+    } else {
+        Err(Refusal::YearNotCovered)
+    }
 }
 
 /// A year that is known to be covered.
@@ -88,9 +92,14 @@ pub fn year_among(years: Vec<Year>, number: i64) -> Result<Year, Refusal> {
 }
 
 pub fn covered_years(calendar: Calendar) -> Vec<Year> {
+    years(calendar, calendar.years())
+}
+
+/// The years from one to another, worked out together.
+pub fn years(calendar: Calendar, numbers: RangeInclusive<i64>) -> Vec<Year> {
     let mut years: Vec<Year> = Vec::new();
-    let mut months = months(calendar).into_iter().peekable();
-    for number in calendar.years() {
+    let mut months = months(calendar, &numbers).into_iter().peekable();
+    for number in numbers {
         let mut of_year: Vec<Month> = months.next().into_iter().collect();
         while let Some(month) = months.next_if(|month| !holds_rain_water(month)) {
             of_year.push(month);
@@ -108,12 +117,12 @@ fn holds_rain_water(month: &Month) -> bool {
     month.number == 1 && !month.leap
 }
 
-/// From month 1 of the first covered year to month 1 after the last.
-fn months(calendar: Calendar) -> Vec<Month> {
-    let mid_terms = mid_terms(calendar);
+/// From month 1 of the first year to month 1 after the last.
+fn months(calendar: Calendar, years: &RangeInclusive<i64>) -> Vec<Month> {
+    let mid_terms = mid_terms(calendar, years);
     let mut months = Vec::new();
     let mut number = 0;
-    for pair in new_moons(calendar).windows(2) {
+    for pair in new_moons(calendar, years).windows(2) {
         let days = pair[0].day..pair[1].day;
         let earlier = mid_terms.partition_point(|mid_term| mid_term.day < days.start);
         let next = mid_terms.get(earlier);
@@ -130,10 +139,10 @@ fn months(calendar: Calendar) -> Vec<Month> {
     months
 }
 
-/// From the first covered year's Rain Water to the one after the last year's.
-fn mid_terms(calendar: Calendar) -> Vec<MidTerm> {
-    let first = calendar.rain_water(*calendar.years().start());
-    let last = calendar.rain_water(*calendar.years().end() + 1);
+/// From the first year's Rain Water to the one after the last year's.
+fn mid_terms(calendar: Calendar, years: &RangeInclusive<i64>) -> Vec<MidTerm> {
+    let first = calendar.rain_water(*years.start());
+    let last = calendar.rain_water(*years.end() + 1);
     (first..=last)
         .map(|mid_term| MidTerm {
             number: calendar.mid_term_number(mid_term),
@@ -143,9 +152,9 @@ fn mid_terms(calendar: Calendar) -> Vec<MidTerm> {
 }
 
 /// From the last by the first mid-term's day to the first after the last one's.
-fn new_moons(calendar: Calendar) -> Vec<NewMoon> {
-    let first_mid_term = calendar.rain_water(*calendar.years().start());
-    let last_mid_term = calendar.rain_water(*calendar.years().end() + 1);
+fn new_moons(calendar: Calendar, years: &RangeInclusive<i64>) -> Vec<NewMoon> {
+    let first_mid_term = calendar.rain_water(*years.start());
+    let last_mid_term = calendar.rain_water(*years.end() + 1);
     let mut place = calendar.new_moon_before(first_mid_term);
     while calendar.first_day(place + 1) <= calendar.mid_term_day(first_mid_term) {
         place += 1;

@@ -1,3 +1,5 @@
+//! The refusals of the rules.
+
 /// Why nothing is answered, with the number that says so.
 #[derive(Clone, Copy)]
 pub enum Refusal {

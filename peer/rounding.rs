@@ -1,3 +1,5 @@
+//! Quotients as whole numbers.
+
 /// The quotient to the whole number at or below it.
 pub fn floor(numerator: i64, denominator: i64) -> i64 {
     numerator.div_euclid(denominator)

@@ -3,8 +3,8 @@
 //! fix the rest, so every call works the run anew from these three and compares.
 
 use crate::calendar;
-use crate::dates::{self, Date};
-use crate::months::{self, Year};
+use crate::dates::Date;
+use crate::months::{self, signed, Year};
 use crate::refusal::Refusal;
 use std::slice;
 
@@ -81,12 +81,33 @@ fn shortened(run: &Run) -> Result<Run, Refusal> {
     of_head(run.calendar, run.first_year + 1, run.years - 1).ok_or(Refusal::RunOfOneYear)
 }
 
-pub fn day_of(run: &Run, date: Date) -> Result<u64, Refusal> {
-    dates::day_among(years_held(run)?, date)
+pub fn day_of(run: &Run, (year, month, leap, day): Date) -> Result<u64, Refusal> {
+    let year = months::year_among(years_held(run)?, signed(year))?;
+    let month = year.month(signed(month), leap)?;
+    let day = signed(day);
+    if (1..=month.length).contains(&day) {
+        Ok((month.first_day + day - 1) as u64)
+    } else {
+        Err(Refusal::NoSuchDay)
+    }
 }
 
 pub fn date_of(run: &Run, day: u64) -> Result<Date, Refusal> {
-    dates::date_among(years_held(run)?, day)
+    let years = years_held(run)?;
+    let day = signed(day);
+    let mut months = years
+        .iter()
+        .flat_map(|year| year.months.iter().map(move |month| (year, month)));
+    let (year, month) = months
+        .find(|(_, month)| month.days().contains(&day))
+        .ok_or(Refusal::DayNotCovered)?;
+    let day_of_month = day - month.first_day + 1;
+    Ok((
+        year.number as u64,
+        month.number as u64,
+        month.leap,
+        day_of_month as u64,
+    ))
 }
 
 /// The years of a run that is as the rules give it.

@@ -5,7 +5,7 @@
 use crate::moon;
 use crate::rounding::floor;
 use crate::sun;
-use crate::units::{Byo, Fen};
+use crate::units::{Byo, Fen, FEN_IN_A_DAY};
 use std::ops::RangeInclusive;
 
 pub const YEARS: RangeInclusive<i64> = 822..=1684;
@@ -16,6 +16,9 @@ pub const YEAR: Fen = Fen(3_068_055);
 const MONTH: Fen = Fen(248_057);
 const MID_TERM_SPACING: Byo = Byo(YEAR.in_byo().0 / 12);
 const ADVANCE_FROM: Fen = Fen(6_300);
+
+/// The Sun and the Moon together put no new moon farther before its mean.
+const MOST_BEFORE_MEAN: Fen = Fen(1_526 + 3_195);
 
 fn accumulated_years(year: i64) -> i64 {
     YEARS_BEFORE_822 + (year - 822)
@@ -34,12 +37,20 @@ pub fn mid_term_number(mid_term: i64) -> i64 {
     (mid_term + 10).rem_euclid(12) + 1
 }
 
+pub fn year_of_mid_term(mid_term: i64) -> i64 {
+    floor(mid_term - 2, 12) - accumulated_years(0)
+}
+
 pub fn mid_term(mid_term: i64) -> Byo {
     Byo(MID_TERM_SPACING.0 * mid_term)
 }
 
 pub fn mid_term_day(mid_term: i64) -> i64 {
     day_number(self::mid_term(mid_term).whole_days())
+}
+
+pub fn last_mid_term_by(day: i64) -> i64 {
+    floor(start_of_day(day + 1).in_byo().0 - 1, MID_TERM_SPACING.0)
 }
 
 pub fn mean_new_moon(new_moon: i64) -> Fen {
@@ -72,6 +83,12 @@ pub fn advanced_day(true_new_moon: Fen) -> i64 {
     true_new_moon.whole_days() + i64::from(moves_a_day(true_new_moon))
 }
 
+/// From the fen of the advance on, a new moon's month begins the day after.
+pub fn last_new_moon_by(day: i64) -> i64 {
+    let begun_before = Fen(start_of_day(day).0 + ADVANCE_FROM.0);
+    floor(begun_before.0 + MOST_BEFORE_MEAN.0 - 1, MONTH.0)
+}
+
 /// A month back from the mean new moon, the corrections and the advance (under
 /// two days together) leave the month's first day before the mid-term's.
 pub fn new_moon_before(mid_term: i64) -> i64 {
@@ -80,4 +97,8 @@ pub fn new_moon_before(mid_term: i64) -> i64 {
 
 pub fn day_number(whole_days: i64) -> i64 {
     whole_days - DAYS_BEFORE_DAY_NUMBER_ZERO
+}
+
+fn start_of_day(day: i64) -> Fen {
+    Fen((day + DAYS_BEFORE_DAY_NUMBER_ZERO) * FEN_IN_A_DAY)
 }
