@@ -1,0 +1,175 @@
+//! A plain array of all months of each calendar, in order, to be searched.
+
+use crate::questions::{Date, Day, Year};
+use crate::sides::{date_number, put_months, Side};
+use crate::sieveflicker::raw::{RECORD_BYTES, RECORD_NUMBERS, YEAR_NUMBERS};
+use peer::calendar::Calendar;
+use peer::months::covered_years;
+
+const LONG_MONTH: u32 = 30;
+
+/// The tags and lengths of a record, and zeros for its numbers.
+const BARE_RECORD: [u8; RECORD_BYTES] = *b"\
+    \x01\0\x01\0\
+    \x02\0\x02\0\0\
+    \x03\0\x04\0\0\0\0\
+    \x04\0\x01\0\
+    \x05\0\x02\0\0";
+
+struct Month {
+    year: u32,
+    number: u32,
+    leap: bool,
+    length: u32,
+    first_day: u32,
+}
+
+impl Month {
+    fn name(&self) -> (u32, u32, bool) {
+        (self.year, self.number, self.leap)
+    }
+}
+
+pub struct Array {
+    senmyo: Vec<Month>,
+    genka: Vec<Month>,
+}
+
+impl Array {
+    pub fn worked_out() -> Array {
+        Array {
+            senmyo: all_months(Calendar::Senmyo),
+            genka: all_months(Calendar::Genka),
+        }
+    }
+
+    fn months(&self, calendar: u32) -> &[Month] {
+        match calendar {
+            1 => &self.senmyo,
+            2 => &self.genka,
+            _ => &[],
+        }
+    }
+
+    fn months_of(&self, year: Year) -> &[Month] {
+        let months = self.months(year.calendar);
+        let start = months.partition_point(|month| month.year < year.number);
+        let rest = &months[start..];
+        let count = rest.iter().take_while(|month| month.year == year.number);
+        &rest[..count.count()]
+    }
+
+    pub fn date_of(&self, day: Day) -> Option<Date> {
+        let months = self.months(day.calendar);
+        let begun = months.partition_point(|month| month.first_day <= day.number);
+        let month = &months[begun.checked_sub(1)?];
+        let days_before = day.number - month.first_day;
+        (days_before < month.length).then_some(Date {
+            calendar: day.calendar,
+            year: month.year,
+            month: month.number,
+            leap: month.leap,
+            day: days_before + 1,
+        })
+    }
+
+    fn day_of(&self, date: Date) -> Option<u32> {
+        let months = self.months(date.calendar);
+        let name = (date.year, date.month, date.leap);
+        let place = months.binary_search_by_key(&name, Month::name).ok()?;
+        let month = &months[place];
+        (1..=month.length)
+            .contains(&date.day)
+            .then(|| month.first_day + date.day - 1)
+    }
+
+    pub fn record_of(&self, year: Year) -> Option<[u8; RECORD_BYTES]> {
+        let months = self.months_of(year);
+        let first = months.first()?;
+        let leap = months.iter().find(|month| month.leap);
+        let long_months = months.iter().rev().fold(0u16, |bits, month| {
+            2 * bits + u16::from(month.length == LONG_MONTH)
+        });
+        let mut record = BARE_RECORD;
+        record[3] = year.calendar as u8;
+        record[7..9].copy_from_slice(&(year.number as u16).to_be_bytes());
+        record[12..16].copy_from_slice(&first.first_day.to_be_bytes());
+        record[19] = leap.map_or(0, |month| month.number as u8);
+        record[23..].copy_from_slice(&long_months.to_be_bytes());
+        Some(record)
+    }
+}
+
+fn all_months(calendar: Calendar) -> Vec<Month> {
+    let mut months = Vec::new();
+    for year in covered_years(calendar) {
+        months.extend(year.months.iter().map(|month| Month {
+            year: year.number as u32,
+            number: month.number as u32,
+            leap: month.leap,
+            length: month.length as u32,
+            first_day: month.first_day as u32,
+        }));
+    }
+    months
+}
+
+impl Side for Array {
+    fn date(&self, day: Day) -> u64 {
+        self.date_of(day).map_or(0, |date| {
+            let Date {
+                year,
+                month,
+                leap,
+                day,
+                ..
+            } = date;
+            date_number(year.into(), month.into(), leap, day.into())
+        })
+    }
+
+    fn day(&self, date: Date) -> u64 {
+        self.day_of(date).map_or(0, u64::from)
+    }
+
+    fn year(&self, year: Year, numbers: &mut [u32; YEAR_NUMBERS]) {
+        let months = self.months_of(year).iter();
+        let in_numbers = months.map(|month| {
+            [
+                month.number,
+                month.leap.into(),
+                month.length,
+                month.first_day,
+            ]
+        });
+        put_months(in_numbers, numbers);
+    }
+
+    fn write_record(&self, year: Year, bytes: &mut [u8; RECORD_BYTES]) {
+        if let Some(record) = self.record_of(year) {
+            *bytes = record;
+        }
+    }
+
+    fn read_record(&self, bytes: &[u8; RECORD_BYTES], numbers: &mut [u32; RECORD_NUMBERS]) {
+        let number = |from: usize, to: usize| {
+            let bytes = bytes[from..to].iter().copied().map(u32::from);
+            bytes.fold(0, |number, byte| 256 * number + byte)
+        };
+        let read = [
+            number(3, 4),
+            number(7, 9),
+            number(12, 16),
+            number(19, 20),
+            number(23, 25),
+        ];
+        let [calendar, year, ..] = read;
+        let year = Year {
+            calendar,
+            number: year,
+        };
+        if self.record_of(year).as_ref() == Some(bytes) {
+            *numbers = read;
+        }
+    }
+}

@@ -1,0 +1,80 @@
+//! The questions of a run: drawn at random, and the same in every run.
+
+use crate::array::Array;
+use crate::questions::{Date, Day, Record, Year};
+use peer::calendar::{self, Calendar};
+use peer::months;
+use std::ops::RangeInclusive;
+
+/// So many that no processor learns the course of a search by heart.
+pub const COUNT: usize = 20_000;
+
+const SEED: u64 = 0x2545_F491_4F6C_DD1D;
+
+/// A shift register of 64 bits.
+pub struct Random(u64);
+
+impl Random {
+    pub fn seeded() -> Random {
+        Random(SEED)
+    }
+
+    fn draw<T: Copy>(&mut self, from: &[T]) -> Vec<T> {
+        (0..COUNT).map(|_| from[self.below(from.len())]).collect()
+    }
+
+    fn below(&mut self, bound: usize) -> usize {
+        self.0 ^= self.0 << 13;
+        self.0 ^= self.0 >> 7;
+        self.0 ^= self.0 << 17;
+        (self.0 % bound as u64) as usize
+    }
+}
+
+/// Days of all covered years, and of the earliest and latest by themselves: a
+/// late day must be no slower than an early one.
+pub fn days(random: &mut Random) -> [(&'static str, Vec<Day>); 4] {
+    let senmyo = |years| days_of(Calendar::Senmyo, years);
+    let genka = days_of(Calendar::Genka, Calendar::Genka.years());
+    let both = [senmyo(Calendar::Senmyo.years()), genka.clone()].concat();
+    [
+        ("both calendars", both),
+        ("Senmyo 822 to 850", senmyo(822..=850)),
+        ("Senmyo 1655 to 1684", senmyo(1655..=1684)),
+        ("Genka", genka),
+    ]
+    .map(|(name, days)| (name, random.draw(&days)))
+}
+
+fn days_of(calendar: Calendar, years: RangeInclusive<i64>) -> Vec<Day> {
+    let mut days = Vec::new();
+    for year in months::years(calendar, years) {
+        days.extend(year.months.iter().flat_map(|month| month.days()));
+    }
+    let calendar = calendar.number() as u32;
+    let day = |number| Day {
+        calendar,
+        number: number as u32,
+    };
+    days.into_iter().map(day).collect()
+}
+
+pub fn dates(array: &Array, days: &[Day]) -> Vec<Date> {
+    days.iter().filter_map(|&day| array.date_of(day)).collect()
+}
+
+pub fn years(random: &mut Random) -> Vec<Year> {
+    let mut years = Vec::new();
+    for calendar in calendar::ALL {
+        years.extend(calendar.years().map(|number| Year {
+            calendar: calendar.number() as u32,
+            number: number as u32,
+        }));
+    }
+    random.draw(&years)
+}
+
+pub fn records(array: &Array, years: &[Year]) -> Vec<Record> {
+    let records = years.iter().filter_map(|&year| array.record_of(year));
+    records.map(Record).collect()
+}

@@ -1,0 +1,50 @@
+//! Measures the library in one run beside two plain ways to the same answers:
+//! the peer, which works each out by the rules, and a search in an array of all
+//! months, which the peer worked out before the clock starts.
+
+mod array;
+mod inputs;
+mod measure;
+mod questions;
+mod sides;
+#[path = "../bindings/sieveflicker.rs"]
+mod sieveflicker;
+
+use array::Array;
+use inputs::Random;
+use measure::compare;
+use questions::{MonthsOf, RecordOf};
+use sides::{Library, Peer, Sides};
+
+fn main() {
+    let sides = Sides {
+        library: Library,
+        peer: Peer,
+        array: Array::worked_out(),
+    };
+    let mut random = Random::seeded();
+    measure::print_head(inputs::COUNT);
+    compare_look_ups(&sides, &mut random);
+    compare_years(&sides, &mut random);
+}
+
+fn compare_look_ups(sides: &Sides, random: &mut Random) {
+    let days = inputs::days(random);
+    for (name, days) in &days {
+        compare(sides, &format!("day to date, {name}"), days);
+    }
+    for (name, days) in &days {
+        let dates = inputs::dates(&sides.array, days);
+        compare(sides, &format!("date to day, {name}"), &dates);
+    }
+}
+
+fn compare_years(sides: &Sides, random: &mut Random) {
+    let years = inputs::years(random);
+    let months_of: Vec<MonthsOf> = years.iter().copied().map(MonthsOf).collect();
+    let record_of: Vec<RecordOf> = years.iter().copied().map(RecordOf).collect();
+    let records = inputs::records(&sides.array, &years);
+    compare(sides, "a year's months", &months_of);
+    compare(sides, "a record written", &record_of);
+    compare(sides, "a record read", &records);
+}
