@@ -18,7 +18,7 @@ use Rattle.units.specs.Units.{dayFen, fenToByo}
 use Rattle.sun.specs.declared.SunRow.{SunRow}
 use Rattle.sun.specs.declared.Place.{Place}
 use Rattle.sun.specs.Sun.{solsticeRow, laterRows, sunRows, noRow, termOf, place, placeIn, year, sunPlace}
-use Rattle.sun.specs.Room.{lasting}
+use Rattle.sun.specs.Room.{lasting, startOf, TermAt}
 
 pub row-count : length sunRows ≡ 24
 unfolding laterRows
@@ -82,11 +82,7 @@ lasting-next (r ∷ rs) (suc n) h =
     let e : suc n + 1 ≡ suc (n + 1) = omega arith in
     rw e (omega (arith, lasting-next rs n (omega arith)))
 
--- where a term starts, counted from the solstice
-abbrev pub startOf : ℕ → ℕ
-startOf n = lasting (take n sunRows)
-
-pub start-next : (n : ℕ) → n < 24 → startOf (n + 1) ≡ startOf n + termOf (getD sunRows n noRow) .span .0
+start-next : (n : ℕ) → n < 24 → startOf (n + 1) ≡ startOf n + termOf (getD sunRows n noRow) .span .0
 start-next n h = lasting-next sunRows n (omega (arith, row-count))
 
 -- past so many terms the search goes on from there
@@ -98,20 +94,20 @@ passed (suc n) x h from =
     sym (place-next sunRows n (x - startOf n) (omega (arith, row-count)) (omega (arith, next, from)) ∙ rw (add-one n, rest))
     ∙ passed n x (omega arith) (omega (arith, next, from))
 
--- what is found between a term's start and the next one's
-pub place-between : (n x : ℕ) → n < 24 → startOf n ≤ x → x < startOf (n + 1) → place (termOf (getD sunRows n noRow)) (x - startOf n) ≡ placeIn solsticeRow laterRows x
-place-between n x h from to =
-    sym (place-here (getD sunRows n noRow) (drop (n + 1) sunRows) (x - startOf n) (omega (arith, start-next n h, from, to))) ∙ passed n x h from
+-- what is found of a moment that falls in a term
+pub place-at : (n x : ℕ) → TermAt n x → place (termOf (getD sunRows n noRow)) (x - startOf n) ≡ placeIn solsticeRow laterRows x
+place-at n x h =
+    sym (place-here (getD sunRows n noRow) (drop (n + 1) sunRows) (x - startOf n) (omega (arith, start-next n (h .one-of-24), h .from, h .to))) ∙ passed n x (h .one-of-24) (h .from)
 
 -- half a mean term after the mean start of each term stands between its start and the next one's, by one test over the table
 abbrev halfTest : ℕ → Bool
 halfTest n = leb (2 * startOf n) ((2 * n + 1) * 1022685) && leb ((2 * n + 1) * 1022685) (2 * startOf (n + 1))
 
-pub record Half (n : ℕ) : Type 0 where
-  pub from : 2 * startOf n ≤ (2 * n + 1) * 1022685
-  pub to : (2 * n + 1) * 1022685 ≤ 2 * startOf (n + 1)
+record Half (n : ℕ) : Type 0 where
+  from : 2 * startOf n ≤ (2 * n + 1) * 1022685
+  to : (2 * n + 1) * 1022685 ≤ 2 * startOf (n + 1)
 
-pub half-between : (n : ℕ) → n < 24 → Half n
+half-between : (n : ℕ) → n < 24 → Half n
 unfolding every solsticeRow laterRows
 half-between n h =
     let t = and-yes (leb (2 * startOf n) ((2 * n + 1) * 1022685)) (leb ((2 * n + 1) * 1022685) (2 * startOf (n + 1))) (at-each halfTest 0 24 tt n (omega arith) (omega arith)) in
@@ -121,21 +117,19 @@ year-start : startOf 24 ≡ 24544440
 unfolding solsticeRow laterRows
 year-start = refl
 
--- term n is the one that starts nearest to a moment of the year by the mean
+-- by the mean, term n starts nearest to a moment of the year
 module _ (x n : ℕ) (low : n * 2045370 ≤ 2 * x + 1022685) (high : 2 * x + 1022685 < (n + 1) * 2045370) (inside : x < 24544440) where
-  -- if it has started, it is one of the year's ..
-  pub started : startOf n ≤ x → n < 24
-  started from = by (ltb n 24) refl
+  -- if it has started, it is one of the 24, and the moment falls in it
+  pub at-nearest : startOf n ≤ x → TermAt n x
+  at-nearest from = by (ltb n 24) refl
     where
-      by : (b : Bool) → ltb n 24 ≡ b → n < 24
-      by true e = ltb-true n 24 e
+      by : (b : Bool) → ltb n 24 ≡ b → TermAt n x
+      by true e =
+          let few = ltb-true n 24 e in
+          record { one-of-24 = few; from = from; to = omega (arith, half-between n few .to, high) }
       by false e =
           let last : n ≡ 24 = omega (arith, ltb-false n 24 e, low, inside) in
           absurd (omega (arith, ap startOf last, year-start, from, inside))
-
-  -- .. and holds the moment
-  pub at-nearest : startOf n ≤ x → place (termOf (getD sunRows n noRow)) (x - startOf n) ≡ placeIn solsticeRow laterRows x
-  at-nearest from = let h = started from in place-between n x h from (omega (arith, half-between n h .to, high))
 
   -- if it has not, there is one before it ..
   pub not-first : x < startOf n → 1 ≤ n
@@ -145,24 +139,12 @@ module _ (x n : ℕ) (low : n * 2045370 ≤ 2 * x + 1022685) (high : 2 * x + 102
       by zero e = absurd (omega (arith, ap startOf e, to))
       by (suc m) e = omega (arith, e)
 
-  pub before-few : n - 1 < 24
-  before-few = omega (arith, low, inside)
-
-  -- .. which ends where it starts ..
-  pub before-ends : x < startOf n → startOf n ≡ startOf (n - 1) + termOf (getD sunRows (n - 1) noRow) .span .0
-  before-ends to =
-      let again : n - 1 + 1 ≡ n = omega (arith, not-first to) in
-      rw again at (start-next (n - 1) before-few)
-
-  -- .. and holds the moment
-  pub before-started : x < startOf n → startOf (n - 1) ≤ x
-  before-started to = omega (arith, half-between (n - 1) before-few .from, low, not-first to)
-
-  pub before-nearest : x < startOf n → place (termOf (getD sunRows (n - 1) noRow)) (x + termOf (getD sunRows (n - 1) noRow) .span .0 - startOf n) ≡ placeIn solsticeRow laterRows x
+  -- .. and the moment falls in that one
+  pub before-nearest : x < startOf n → TermAt (n - 1) x
   before-nearest to =
       let again : n - 1 + 1 ≡ n = omega (arith, not-first to) in
-      let into : x + termOf (getD sunRows (n - 1) noRow) .span .0 - startOf n ≡ x - startOf (n - 1) = omega (arith, before-ends to, before-started to) in
-      rw into (place-between (n - 1) x before-few (before-started to) (rw again to))
+      let few : n - 1 < 24 = omega (arith, low, inside) in
+      record { one-of-24 = few; from = omega (arith, half-between (n - 1) few .from, low, not-first to); to = rw again to }
 
 -- what is found: a row's term, with what holds of every row, and a place within its span
 pub record Found (P : SunRow → Type 0) (p : Place) : Type 0 where

@@ -2,14 +2,25 @@
 use mathlib.Core.List.{List, [], _∷_}
 use Prim.Native.Nat.{ℕ, _+_, _<_, _≤_}
 use lib.IntN.{natAbs}
+use lib.ListN.{take}
 use Rattle.sun.specs.declared.SunRow.{SunRow}
 use Rattle.sun.specs.declared.Term.{Term}
-use Rattle.sun.specs.Sun.{termOf}
+use Rattle.sun.specs.Sun.{termOf, sunRows}
 
 -- how long the terms of some rows last together, in byo
 abbrev pub lasting : List SunRow → ℕ
 lasting [] = 0
 lasting (r ∷ rs) = termOf r .span .0 + lasting rs
+
+-- where a term starts, counted from the solstice
+abbrev pub startOf : ℕ → ℕ
+startOf n = lasting (take n sunRows)
+
+-- a moment after the solstice falls in term n
+pub record TermAt (n x : ℕ) : Type 0 where
+  pub one-of-24 : n < 24
+  pub from : startOf n ≤ x
+  pub to : x < startOf (n + 1)
 
 -- a true term's numbers, and whole days in it
 pub record Narrow (t : Term) (n : ℕ) : Type 0 where

@@ -4,10 +4,10 @@ use units::Byo;
 use units::Fen;
 ghost use mathlib.Core.Path.{_≡_};
 ghost use Prim.Native.Nat.{_<_, _≤_};
-ghost use lib.ListN.{getD, take};
+ghost use lib.ListN.{getD};
 ghost use Rattle.units.specs.Units.{fenToByo};
 ghost use Rattle.sun.specs.Sun.{solsticeRow, laterRows, sunRows, noRow, termOf, placeIn, year, afterDays, onDay, sunOf};
-ghost use Rattle.sun.specs.Room.{lasting, Narrow};
+ghost use Rattle.sun.specs.Room.{startOf, TermAt, Narrow};
 
 // A row as the page prints it: days, fen and byo of a span; rate, first and sum in 1/10,000 fen.
 pub struct SunRow(pub u64, pub u64, pub u64, pub i64, pub i64, pub i64);
@@ -81,7 +81,7 @@ fn true_term(number: usize) -> Term
 // The byo from the solstice to the start of a term: the spans before it together.
 fn start_of(number: usize) -> u64
     requires { ⌜ number ≤ 24 ⌝ }
-    ensures { λ r. ⌜ r ≡ lasting (take number sunRows) ⌝ }
+    ensures { λ r. ⌜ r ≡ startOf number ⌝ }
 {
     match number {
         0 => 0,
@@ -112,25 +112,29 @@ fn start_of(number: usize) -> u64
     }
 }
 
-// The true term that holds a moment counted from the solstice. Each starts within half a mean term of the mean one of its number, so it is the one
-// that starts nearest to the moment by the mean, or the one before.
+// The true term that a moment counted from the solstice falls in. Each starts within half a mean term of the mean one of its number, so it is the one
+// that by the mean starts nearest to the moment, or the one before.
+fn term_at(since_solstice: u64) -> usize
+    requires { ⌜ «since_solstice» < fenToByo year .0 ⌝ }
+    ensures { λ r. ⌜ TermAt r «since_solstice» ⌝ }
+{
+    let nearest = ((2 * since_solstice + MEAN_TERM) / (2 * MEAN_TERM)) as usize;
+    if since_solstice < start_of(nearest) {
+        nearest - 1
+    } else {
+        nearest
+    }
+}
+
+// That term, and how far into it the moment stands.
 fn place_of(since_solstice: Byo) -> Place
     requires { ⌜ «since_solstice» .0 < fenToByo year .0 ⌝ }
     ensures { λ r. ⌜ r ≡ placeIn solsticeRow laterRows («since_solstice» .0) ⌝ }
 {
-    let at = since_solstice.0;
-    let nearest = ((2 * at + MEAN_TERM) / (2 * MEAN_TERM)) as usize;
-    let start = start_of(nearest);
-    if start <= at {
-        return Place {
-            term: true_term(nearest),
-            into: Byo(at - start),
-        };
-    }
-    let term = true_term(nearest - 1);
+    let number = term_at(since_solstice.0);
     Place {
-        term,
-        into: Byo(at + term.span.0 - start),
+        term: true_term(number),
+        into: Byo(since_solstice.0 - start_of(number)),
     }
 }
 

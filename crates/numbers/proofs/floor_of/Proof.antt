@@ -1,103 +1,43 @@
--- `numbers::floor_of` meets its contract: of z ≥ 0 it divides z, and of z < 0 it divides −1 − z, as the definition does.
-use mathlib.Core.Path.{_≡_}
-use Prim.Native.Nat.{_<_, _/_, _^_}
+-- `numbers::floor_of` meets its contract: it divides n of n, and n of −1 − n, and the quotient stays on its side, as in the definition.
+use mathlib.Core.Path.{_≡_, refl, ap, _∙_}
+use Prim.Native.Nat.{ℕ, _/_}
 use native.Mathlib.Nat.{div-le-self}
 use native.Mathlib.Omega.{arith}
-use lib.IntN.{pos, negsuc, _-ℤ_}
+use lib.IntN.{ℤ, pos, negsuc}
 use lib.Signed.{mag}
 use mir.Syntax.{w64}
 use mir.Val.{SFits}
-use mir.Facts.{toZ-ofZ, toZ-pos}
+use mir.Facts.{toZ-ofZ}
 use borrow.Author.Needs.{needs}
-use Rattle.numbers.proofs.Signs.{not-below, below, flipped, one-below}
+use Rattle.numbers.specs.Rounding.{floor}
+use Rattle.numbers.specs.Room.{onSideOf}
 use Rattle.numbers.proofs.floor_of.Statement.{statement}
 use Rattle.numbers.proofs.floor_of.Tie as tie
 
--- z ≥ 0: z is a natural, and the quotient fits
-record Up (c : tie.Then1) : Type 0 where
-  is : c .before .args .z ≡ pos (mag (c .before .args .z))
-  small : mag (c .before .args .z) / c .before .args .divisor < 2 ^ 63
+by-side : (z : ℤ) (d : ℕ) → onSideOf z (mag z / d) ≡ floor z d
+by-side (pos n) d = refl
+by-side (negsuc n) d = refl
 
-up : (c : tie.Then1) → Up c
-up c =
-    let z = c .before .args .z in
-    record {
-      is = not-below z (rw (toZ-ofZ (c .before .fits .z)) at (c .if1 .taken));
-      small = omega (arith, div-le-self (mag z) (c .before .args .divisor), c .before .fits .z .sfits);
-    }
+-- what is divided
+size : (c : tie.After-size-of) → c .size-of .result ≡ mag (c .before .args .z)
+size c = rw (toZ-ofZ (c .before .fits .z)) at (c .size-of .ensures)
 
--- z < 0: −1 − z is a natural, and the quotient fits
-record Down (c : tie.Else1) : Type 0 where
-  is : c .before .args .z ≡ negsuc (mag (c .before .args .z))
-  size : negsuc 0 -ℤ c .before .args .z ≡ pos (mag (c .before .args .z))
-  fits : SFits w64 (pos (mag (c .before .args .z)))
-  small : mag (c .before .args .z) / c .before .args .divisor < 2 ^ 63
+size-of-requires : tie.Need-size-of-requires
+size-of-requires c κs = search needs
 
-down : (c : tie.Else1) → Down c
-down c =
-    let z = c .before .args .z in
-    let left = rw (toZ-ofZ (c .before .fits .z)) at (c .if1 .left) in
-    record {
-      is = below z left;
-      size = flipped z left;
-      fits = record { sfits = c .before .fits .z .sfits };
-      small = omega (arith, div-le-self (mag z) (c .before .args .divisor), c .before .fits .z .sfits);
-    }
+div-on-side-of : tie.Need-div-on-side-of
+div-on-side-of c = search needs
 
-cast-result : tie.Need-cast-result
-cast-result c = rw (toZ-ofZ (c .before .fits .z), up c .is) (tt, omega (arith, c .before .fits .z .sfits))
-
-div-result : tie.Need-div-result
-div-result c = search needs
-
-cast-result-2 : tie.Need-cast-result-2
-cast-result-2 c = rw (toZ-ofZ (c .before .fits .z), up c .is) (record { sfits = up c .small })
-
-sub-result : tie.Need-sub-result
-sub-result c = rw (toZ-ofZ (c .before .fits .z), down c .size) (down c .fits)
-
-cast-result-3 : tie.Need-cast-result-3
-cast-result-3 c =
-    rw (toZ-ofZ (c .before .fits .z), down c .size, toZ-ofZ (down c .fits)) (tt, omega (arith, c .before .fits .z .sfits))
-
-div-result-2 : tie.Need-div-result-2
-div-result-2 c = search needs
-
-cast-result-4 : tie.Need-cast-result-4
-cast-result-4 c =
-    rw (toZ-ofZ (c .before .fits .z), down c .size, toZ-ofZ (down c .fits)) (record { sfits = down c .small })
-
-sub-result-2 : tie.Need-sub-result-2
-sub-result-2 c =
-    rw (toZ-ofZ (c .before .fits .z), down c .size, toZ-ofZ (down c .fits), toZ-pos w64 (down c .small), one-below)
-    (record { sfits = down c .small })
+on-side-of-requires : tie.Need-on-side-of-requires
+on-side-of-requires c κs =
+    omega (arith, size c, div-le-self (c .size-of .result) (c .before .args .divisor), c .before .fits .z .sfits)
 
 returns : tie.Need-returns
-returns c = rw (toZ-ofZ (c .before .fits .z), up c .is, toZ-pos w64 (up c .small))
-
-returns-2 : tie.Need-returns-2
-returns-2 c =
-    rw (
-      toZ-ofZ (c .before .fits .z),
-      down c .size,
-      toZ-ofZ (down c .fits),
-      toZ-pos w64 (down c .small),
-      one-below,
-      toZ-ofZ (record { sfits = down c .small }),
-    )
-    (rw (down c .is))
+returns c =
+    let s = c .before .before in
+    let fits : SFits w64 (c .on-side-of .result) = search needs in
+    rw (toZ-ofZ fits)
+    (rw (toZ-ofZ (s .fits .z)) at (c .on-side-of .ensures) ∙ ap (λ n. onSideOf (s .args .z) (n / s .args .divisor)) (size (c .before)) ∙ by-side (s .args .z) (s .args .divisor))
 
 pub floor-of-spec : {M : Type 1} → statement M
-floor-of-spec =
-    tie.close
-    (tie.spec
-    cast-result
-    div-result
-    cast-result-2
-    sub-result
-    cast-result-3
-    div-result-2
-    cast-result-4
-    sub-result-2
-    returns
-    returns-2)
+floor-of-spec = tie.close (tie.spec size-of-requires div-on-side-of on-side-of-requires returns)

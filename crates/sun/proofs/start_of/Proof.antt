@@ -3,7 +3,7 @@ use mathlib.Core.Path.{_≡_, sym, ap}
 use native.Mathlib.Omega.{arith}
 use Rattle.numbers.proofs.Arms.{past-arms}
 use Rattle.sun.specs.Sun.{solsticeRow, laterRows}
-use Rattle.sun.proofs.Terms.{startOf}
+use Rattle.sun.specs.Room.{startOf}
 use Rattle.sun.proofs.start_of.Statement.{statement}
 use Rattle.sun.proofs.start_of.Tie as tie
 
