@@ -1,6 +1,6 @@
 -- Refusals have small numbers, and covered days and years large ones, so that one number can tell which it is.
 use mathlib.Core.Path.{_≡_}
-use mathlib.Core.Bool.{Bool, true}
+use mathlib.Core.Bool.{Bool}
 use Prim.Native.Nat.{ℕ, _+_, _<_, _≤_}
 use native.Mathlib.Omega.{arith}
 use Rattle.numbers.specs.Answer.{given, refused}
@@ -13,7 +13,7 @@ use Rattle.asked.specs.Asked.{isCalendar, numbered, rulesFor, isCovered, hasMon
 use Rattle.asked.specs.Room.{CoveredYear}
 use Rattle.asked.proofs.Covered.{covered-year-told}
 use Rattle.calendar.specs.declared.Date.{Date}
-use Rattle.calendar.specs.Dates.{hasDay, dayIn, dayOf, isCoveredDay, dateIn, dateOf}
+use Rattle.calendar.specs.Dates.{hasDay, dayOf, isCoveredDay, dateOf}
 use Rattle.calendar.specs.Room.{CoveredDay}
 use Rattle.calendar.proofs.Covered.{covered-day-told}
 use Rattle.calendar.proofs.Refusals.{day-given, date-given}

@@ -138,7 +138,7 @@ cycle-643 : cycle 1956072 ≡ 1
 cycle-643 = refl
 
 -- the last day of its leap month
-leap-643 : dayOf 2 643 7 true 30 ≡ given 1956174
+pub leap-643 : dayOf 2 643 7 true 30 ≡ given 1956174
 unfolding dayOf rulesOf worked genkaTerm
 leap-643 =
     let is-leap : isLeap genka 73017 ≡ true = ap (λ (m : Month). m .leap) (listed-worked genka genka-steady genkaTerm genka-term 73017) in

@@ -26,7 +26,7 @@ unfolding longMonths longBit
 fields-1522 = fields-listed 1 1522 _ months-1522
 
 -- as 01 prints it
-abbrev printed-1522 : List ℕ
+abbrev pub printed-1522 : List ℕ
 printed-1522 =
     0x01 ∷ 0x00 ∷ 0x01 ∷ 0x01
     ∷ 0x02 ∷ 0x00 ∷ 0x02 ∷ 0x05 ∷ 0xF2
@@ -43,7 +43,7 @@ write-1522 : writeOf 1 1522 (replicate 27 255) ≡ given (printed-1522 ++ 255 �
 unfolding writeOf rulesOf
 write-1522 = rw record-1522
 
-read-1522 : readOf printed-1522 ≡ given (fields 1 1522 2276996 0 3402)
+pub read-1522 : readOf printed-1522 ≡ given (fields 1 1522 2276996 0 3402)
 read-1522 = read-back 1 1522 (replicate 27 255) _ write-1522 ∙ ap given fields-1522
 
 -- ---- 643, a year of thirteen months

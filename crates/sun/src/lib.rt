@@ -5,7 +5,7 @@ use units::Fen;
 ghost use mathlib.Core.Path.{_≡_};
 ghost use Prim.Native.Nat.{_<_, _≤_};
 ghost use lib.ListN.{getD};
-ghost use Rattle.units.specs.Units.{fenToByo};
+ghost use Rattle.units.specs.Units.{byo, fenToByo};
 ghost use Rattle.sun.specs.Sun.{solsticeRow, laterRows, sunRows, noRow, termOf, placeIn, year, afterDays, onDay, sunOf};
 ghost use Rattle.sun.specs.Room.{startOf, TermAt, Narrow};
 
@@ -78,48 +78,48 @@ fn true_term(number: usize) -> Term
     }
 }
 
-// The byo from the solstice to the start of a term: the spans before it together.
-fn start_of(number: usize) -> u64
+// From the solstice to the start of a term, all spans before it; for 24, to the end of the year.
+fn start_of(number: usize) -> Byo
     requires { ⌜ number ≤ 24 ⌝ }
-    ensures { λ r. ⌜ r ≡ startOf number ⌝ }
+    ensures { λ r. ⌜ r ≡ byo (startOf number) ⌝ }
 {
     match number {
-        0 => 0,
-        1 => 974_685,
-        2 => 1_957_370,
-        3 => 2_948_055,
-        4 => 3_946_740,
-        5 => 4_955_025,
-        6 => 5_972_910,
-        7 => 7_000_395,
-        8 => 8_037_480,
-        9 => 9_084_165,
-        10 => 10_138_850,
-        11 => 11_201_535,
-        12 => 12_272_220,
-        13 => 13_342_905,
-        14 => 14_405_590,
-        15 => 15_460_275,
-        16 => 16_506_960,
-        17 => 17_544_045,
-        18 => 18_571_530,
-        19 => 19_589_415,
-        20 => 20_597_700,
-        21 => 21_596_385,
-        22 => 22_587_070,
-        23 => 23_569_755,
-        _ => YEAR,
+        0 => Byo(0),
+        1 => Byo(974_685),
+        2 => Byo(1_957_370),
+        3 => Byo(2_948_055),
+        4 => Byo(3_946_740),
+        5 => Byo(4_955_025),
+        6 => Byo(5_972_910),
+        7 => Byo(7_000_395),
+        8 => Byo(8_037_480),
+        9 => Byo(9_084_165),
+        10 => Byo(10_138_850),
+        11 => Byo(11_201_535),
+        12 => Byo(12_272_220),
+        13 => Byo(13_342_905),
+        14 => Byo(14_405_590),
+        15 => Byo(15_460_275),
+        16 => Byo(16_506_960),
+        17 => Byo(17_544_045),
+        18 => Byo(18_571_530),
+        19 => Byo(19_589_415),
+        20 => Byo(20_597_700),
+        21 => Byo(21_596_385),
+        22 => Byo(22_587_070),
+        23 => Byo(23_569_755),
+        _ => Byo(YEAR),
     }
 }
 
 // The true term that a moment counted from the solstice falls in. Each starts within half a mean term of the mean one of its number, so it is the one
 // that by the mean starts nearest to the moment, or the one before.
-fn term_at(since_solstice: u64) -> usize
-    requires { ⌜ «since_solstice» < fenToByo year .0 ⌝ }
-    ensures { λ r. ⌜ TermAt r «since_solstice» ⌝ }
+fn term_at(since_solstice: Byo) -> usize
+    requires { ⌜ «since_solstice» .0 < fenToByo year .0 ⌝ }
+    ensures { λ r. ⌜ TermAt r («since_solstice» .0) ⌝ }
 {
-    let nearest = ((2 * since_solstice + MEAN_TERM) / (2 * MEAN_TERM)) as usize;
-    if since_solstice < start_of(nearest) {
+    let nearest = ((2 * since_solstice.0 + MEAN_TERM) / (2 * MEAN_TERM)) as usize;
+    if since_solstice.0 < start_of(nearest).0 {
         nearest - 1
     } else {
         nearest
@@ -131,10 +131,10 @@ fn place_of(since_solstice: Byo) -> Place
     requires { ⌜ «since_solstice» .0 < fenToByo year .0 ⌝ }
     ensures { λ r. ⌜ r ≡ placeIn solsticeRow laterRows («since_solstice» .0) ⌝ }
 {
-    let number = term_at(since_solstice.0);
+    let number = term_at(since_solstice);
     Place {
         term: true_term(number),
-        into: Byo(since_solstice.0 - start_of(number)),
+        into: Byo(since_solstice.0 - start_of(number).0),
     }
 }
 

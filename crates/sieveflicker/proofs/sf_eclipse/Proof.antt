@@ -1,5 +1,5 @@
 -- `sieveflicker::sf_eclipse` meets its contract: refused before a number is written, or the moon's four numbers and the grade's are written.
-use mathlib.Core.Path.{_≡_, refl, sym, ap, _∙_}
+use mathlib.Core.Path.{refl, sym, ap, _∙_}
 use native.Mathlib.Omega.{arith}
 use borrow.Author.Needs.{needs}
 use lib.Seq.{sets}

@@ -1,5 +1,5 @@
 -- `sieveflicker::sf_moons` meets its contract: refused before a date is written, or both dates are written.
-use mathlib.Core.Path.{_≡_, refl, sym, ap, _∙_}
+use mathlib.Core.Path.{refl, sym, ap, _∙_}
 use borrow.Author.Needs.{needs}
 use Rattle.moons.specs.Instants.{moonsOf}
 use Rattle.moons.specs.Answers.{moonsMeans}

@@ -1,0 +1,74 @@
+-- The exported calls' definitions at 01's worked figures, and the order of their refusals.
+use mathlib.Core.Path.{_≡_, refl, ap}
+use mathlib.Core.Bool.{true}
+use mathlib.Core.List.{[], _∷_}
+use Prim.Native.Nat.{_-_, _^_}
+use lib.ListN.{replicate}
+use Rattle.numbers.specs.Answer.{given, refused, then}
+use Rattle.moons.specs.Eclipses.{eclipseOf}
+use Rattle.moons.proofs.Figures.{eclipse-1522}
+use Rattle.calendar.proofs.OneDate.{date-of-day-of}
+use Rattle.calendar.proofs.Figures.{months-1522, day-643, leap-643}
+use Rattle.record.specs.Tagged.{numbersOf}
+use Rattle.record.proofs.Figures.{printed-1522, read-1522}
+use Rattle.kept.specs.Runs.{dateNumber}
+use Rattle.sieveflicker.specs.Numbers.{numberIn, placesNumbers}
+use Rattle.sieveflicker.specs.Exported.{written, dayNumberOf, dateNumberOf, yearWritten, eclipseWritten, fieldsWritten}
+
+-- 643 month 5 day 16
+day : dayNumberOf 2 643 5 0 16 ≡ 1956072
+day = ap numberIn day-643
+
+-- the last day of its leap month, asked for with the largest number
+leap-day : dayNumberOf 2 643 7 (2 ^ 64 - 1) 30 ≡ 1956174
+leap-day = ap numberIn leap-643
+
+leap-date : dateNumberOf 2 1956174 ≡ 1_0643_07_30
+leap-date = ap (λ a. numberIn (then a (λ t. given (dateNumber t)))) (date-of-day-of 2 643 7 true 30 1956174 leap-643)
+
+-- 1522, into memory for 56 numbers, of which one stays as it was
+year : yearWritten 1 1522 (replicate 56 7) ≡
+    given
+    (354 ∷ 0 ∷ 12 ∷
+    1 ∷ 0 ∷ 29 ∷ 2276996 ∷
+    2 ∷ 0 ∷ 30 ∷ 2277025 ∷
+    3 ∷ 0 ∷ 29 ∷ 2277055 ∷
+    4 ∷ 0 ∷ 30 ∷ 2277084 ∷
+    5 ∷ 0 ∷ 29 ∷ 2277114 ∷
+    6 ∷ 0 ∷ 29 ∷ 2277143 ∷
+    7 ∷ 0 ∷ 30 ∷ 2277172 ∷
+    8 ∷ 0 ∷ 29 ∷ 2277202 ∷
+    9 ∷ 0 ∷ 30 ∷ 2277231 ∷
+    10 ∷ 0 ∷ 29 ∷ 2277261 ∷
+    11 ∷ 0 ∷ 30 ∷ 2277290 ∷
+    12 ∷ 0 ∷ 30 ∷ 2277320 ∷
+    0 ∷ 0 ∷ 0 ∷ 0 ∷
+    7 ∷ [])
+unfolding written placesNumbers
+year = rw months-1522
+
+-- 1522 month 2
+eclipse : eclipseWritten 1 1522 2 0 (replicate 8 7) ≡ given (2277039 ∷ 6215 ∷ 1 ∷ 2241 ∷ 2 ∷ 14 ∷ 412 ∷ 1 ∷ [])
+unfolding written
+eclipse = rw eclipse-1522
+
+-- the record as 01 prints it
+fields : fieldsWritten printed-1522 (replicate 5 7) ≡ given (1 ∷ 1522 ∷ 2276996 ∷ 0 ∷ 3402 ∷ [])
+unfolding written numbersOf
+fields = rw read-1522
+
+-- ---- refusals, the first in 01's order where several hold
+
+-- 6: too little memory, for a calendar that is none
+short-year : yearWritten 3 0 (replicate 54 7) ≡ refused 6
+unfolding written
+short-year = refl
+
+short-fields : fieldsWritten printed-1522 (replicate 4 7) ≡ refused 6
+unfolding written
+short-fields = refl
+
+-- 13, with a year and a month that are none
+genka-eclipse : eclipseWritten 2 0 0 1 (replicate 8 7) ≡ refused 13
+unfolding written eclipseOf
+genka-eclipse = refl
