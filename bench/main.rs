@@ -13,7 +13,7 @@ mod sieveflicker;
 use array::Array;
 use inputs::Random;
 use measure::compare;
-use questions::{MonthsOf, RecordOf};
+use questions::{Day, MonthsOf, RecordOf};
 use sides::{Library, Peer, Sides};
 
 fn main() {
@@ -24,16 +24,20 @@ fn main() {
     };
     let mut random = Random::seeded();
     measure::print_head(inputs::COUNT);
-    compare_look_ups(&sides, &mut random);
+    let days = inputs::days(&mut random);
+    compare_days(&sides, &days);
+    compare_dates(&sides, &days);
     compare_years(&sides, &mut random);
 }
 
-fn compare_look_ups(sides: &Sides, random: &mut Random) {
-    let days = inputs::days(random);
-    for (name, days) in &days {
+fn compare_days(sides: &Sides, days: &[(&str, Vec<Day>)]) {
+    for (name, days) in days {
         compare(sides, &format!("day to date, {name}"), days);
     }
-    for (name, days) in &days {
+}
+
+fn compare_dates(sides: &Sides, days: &[(&str, Vec<Day>)]) {
+    for (name, days) in days {
         let dates = inputs::dates(&sides.array, days);
         compare(sides, &format!("date to day, {name}"), &dates);
     }

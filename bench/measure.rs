@@ -25,24 +25,28 @@ pub fn print_head(calls: usize) {
 pub fn compare<Q: Question>(sides: &Sides, asked: &str, questions: &[Q]) {
     let mut best = [f64::INFINITY; 3];
     for _ in 0..ROUNDS {
-        let rounds = [
-            put_all(questions, &sides.library),
-            put_all(questions, &sides.peer),
-            put_all(questions, &sides.array),
-        ];
-        let [library, peer, array] = rounds.each_ref().map(|round| round.sum_of_answers);
-        assert!(
-            library == peer && library == array,
-            "{asked}: the sides give different answers"
-        );
-        for (best, round) in best.iter_mut().zip(rounds) {
-            *best = best.min(round.nanoseconds_per_call);
-        }
+        let times = put_all_to_each(sides, asked, questions);
+        best = [0, 1, 2].map(|side| times[side].min(best[side]));
     }
     let [library, peer, array] = best;
     let to_peer = library / peer;
     let to_array = library / array;
     println!("{asked:<34}{library:>10.1}{peer:>10.1}{array:>10.1}{to_peer:>15.2}{to_array:>15.2}");
+}
+
+/// The nanoseconds per call of each side.
+fn put_all_to_each<Q: Question>(sides: &Sides, asked: &str, questions: &[Q]) -> [f64; 3] {
+    let rounds = [
+        put_all(questions, &sides.library),
+        put_all(questions, &sides.peer),
+        put_all(questions, &sides.array),
+    ];
+    let [library, peer, array] = rounds.each_ref().map(|round| round.sum_of_answers);
+    assert!(
+        library == peer && library == array,
+        "{asked}: the sides give different answers"
+    );
+    rounds.map(|round| round.nanoseconds_per_call)
 }
 
 fn put_all<Q: Question, S: Side>(questions: &[Q], side: &S) -> Round {

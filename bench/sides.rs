@@ -1,5 +1,6 @@
-//! The sides that are compared. Each answers as the library does; what is
-//! refused counts as zeros, which the other sides' answers are not.
+//! The sides that are compared. Each answers as the library does, and every
+//! question has an answer: what a side refused would count as zeros, or, where
+//! the library is asked for a day or a date, as the small number of its refusal.
 
 use crate::array::Array;
 use crate::questions::{Date, Day, Year};

@@ -1,10 +1,10 @@
 /* The proved library of the Senmyo and Genka calendars, for a program in C or C++.
  *
  * A call takes any numbers, and answers or refuses. A day is a Julian Day Number; a leap of 0 asks for an ordinary month,
- * any other for a leap one. A call that writes has a pointer and the count of elements there: the pointer must not be
- * null, even for 0 elements, and they must be the caller's for the whole call. Such a call returns 0 and writes its
- * numbers in the first places, or returns the refusal's number and writes nothing; later places keep what they hold.
- * Nothing is kept between calls, which may be made from several threads at once.
+ * any other for a leap one. Memory is lent as a pointer and the count of elements there: no pointer may be null, even
+ * for 0 elements, and what it points to must be the caller's for the whole call. A call that is lent memory to write
+ * returns 0 and writes its numbers in the first places, or returns the refusal's number and writes nothing; later
+ * places keep what they hold. Nothing is kept between calls, which may be made from several threads at once.
  */
 #ifndef SIEVEFLICKER_H
 #define SIEVEFLICKER_H
@@ -32,7 +32,7 @@
 #define SF_WRONG_SIZE 6           /* too few places to write to, or a record to read that is not 25 bytes */
 #define SF_WRONG_TAG_OR_LENGTH 7  /* of a field of the record */
 #define SF_WRONG_FIELD 8          /* the record has a number that its year has not */
-#define SF_ECLIPSE_OF_GENKA 13    /* it has no rule for them */
+#define SF_ECLIPSE_OF_GENKA 13    /* eclipses are worked out for Senmyo only */
 
 /* Whether an answer of sf_day or sf_date is a refusal's number: days and dates are far above those. */
 #define SF_REFUSED(answer) ((answer) < 100)

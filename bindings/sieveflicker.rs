@@ -143,7 +143,7 @@ impl Refusal {
             Refusal::WrongSize => "a record has 25 bytes",
             Refusal::WrongTagOrLength => "a tag or a length in the record is wrong",
             Refusal::WrongField => "a field of the record is not what its year has",
-            Refusal::EclipseOfGenka => "Genka has no rule for eclipses",
+            Refusal::EclipseOfGenka => "eclipses are worked out for Senmyo only",
         }
     }
 }

@@ -48,10 +48,11 @@ fn days_to_dates(comparison: &mut Comparison, listing: &Listing) {
 }
 
 fn dates_to_days(comparison: &mut Comparison, listing: &Listing) {
-    for [calendar, year, month, leap] in names(listing) {
-        for day in DAYS {
-            comparison.ask(Question::Day([calendar, year, month, leap, day]));
-        }
+    let dates = names(listing).flat_map(|[calendar, year, month, leap]| {
+        DAYS.map(move |day| [calendar, year, month, leap, day])
+    });
+    for date in dates {
+        comparison.ask(Question::Day(date));
     }
 }
 

@@ -49,12 +49,12 @@ pub fn compare(comparison: &mut Comparison, listings: &[Listing]) {
 }
 
 fn one_byte_changed(comparison: &mut Comparison, record: &[u8]) {
-    for place in 0..record.len() {
-        for byte in 0..=u8::MAX {
-            let mut bytes = record.to_vec();
-            bytes[place] = byte;
-            comparison.ask(Question::ReadRecord(bytes, question::RECORD_READ));
-        }
+    let places = 0..record.len();
+    let changes = places.flat_map(|place| (0..=u8::MAX).map(move |byte| (place, byte)));
+    for (place, byte) in changes {
+        let mut bytes = record.to_vec();
+        bytes[place] = byte;
+        comparison.ask(Question::ReadRecord(bytes, question::RECORD_READ));
     }
 }
 

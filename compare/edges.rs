@@ -75,42 +75,57 @@ fn pairs<const COUNT: usize>(
     numbers: [u64; COUNT],
     question: impl Fn([u64; COUNT]) -> Question,
 ) {
-    for second in 1..COUNT {
-        for first in 0..second {
-            for &edge in edges {
-                for &other in edges {
-                    let mut numbers = numbers;
-                    numbers[first] = edge;
-                    numbers[second] = other;
-                    comparison.ask(question(numbers));
-                }
-            }
-        }
+    let changes = pairs_of_places(COUNT)
+        .flat_map(|places| pairs_of_edges(edges).map(move |values| (places, values)));
+    for ([first, second], [edge, other]) in changes {
+        let mut numbers = numbers;
+        numbers[first] = edge;
+        numbers[second] = other;
+        comparison.ask(question(numbers));
     }
 }
 
+fn pairs_of_places(count: usize) -> impl Iterator<Item = [usize; 2]> {
+    (1..count).flat_map(|second| (0..second).map(move |first| [first, second]))
+}
+
+fn pairs_of_edges(edges: &[u64]) -> impl Iterator<Item = [u64; 2]> + '_ {
+    edges
+        .iter()
+        .flat_map(|&edge| edges.iter().map(move |&other| [edge, other]))
+}
+
 fn lengths(comparison: &mut Comparison, listing: &Listing) {
-    let [calendar, year, month, leap, _] = in_a_leap_month(listing);
-    let name = [calendar, year, month, leap];
-    for length in 0..=MOST_LENT {
+    let names = with_and_without_zeros(in_a_leap_month(listing));
+    let writings = (0..=MOST_LENT).flat_map(|length| names.map(|name| (name, length)));
+    for (name, length) in writings {
         written_into(comparison, name, length);
-        for wrong in 0..name.len() {
-            let mut name = name;
-            name[wrong] = 0;
-            written_into(comparison, name, length);
-        }
     }
     let record = record::of_year(&listing.years[0]);
     let mut not_a_record = record.clone();
     not_a_record[0] += 1;
-    for bytes in [record, not_a_record] {
-        for bytes_length in 0..=MOST_LENT {
-            for length in 0..=MOST_LENT {
-                let mut bytes = bytes.clone();
-                bytes.resize(bytes_length, 0);
-                comparison.ask(Question::ReadRecord(bytes, length));
-            }
-        }
+    records_of_each_length(comparison, &record);
+    records_of_each_length(comparison, &not_a_record);
+}
+
+/// The month's name, and that with 0 in each place in turn.
+fn with_and_without_zeros([calendar, year, month, leap, _]: [u64; 5]) -> [[u64; 4]; 5] {
+    [
+        [calendar, year, month, leap],
+        [0, year, month, leap],
+        [calendar, 0, month, leap],
+        [calendar, year, 0, leap],
+        [calendar, year, month, 0],
+    ]
+}
+
+fn records_of_each_length(comparison: &mut Comparison, record: &[u8]) {
+    let lengths = (0..=MOST_LENT)
+        .flat_map(|bytes_length| (0..=MOST_LENT).map(move |length| (bytes_length, length)));
+    for (bytes_length, length) in lengths {
+        let mut bytes = record.to_vec();
+        bytes.resize(bytes_length, 0);
+        comparison.ask(Question::ReadRecord(bytes, length));
     }
 }
 

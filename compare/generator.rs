@@ -30,7 +30,7 @@ impl Generator {
     }
 
     pub fn one_in(&mut self, times: u64) -> bool {
-        self.bits().is_multiple_of(times)
+        self.bits() % times == 0
     }
 
     pub fn one_of<'a, T>(&mut self, choices: &'a [T]) -> &'a T {

@@ -6,30 +6,42 @@ use crate::expected::{self, date_number, year_numbers};
 use crate::listing::{self, Listing};
 use crate::question::Question;
 use crate::room::{Answer, ROOM};
-use peer::months::{self, Year};
+use peer::months::{self, Month, Year};
 
 pub fn compare(comparison: &mut Comparison, listings: &[Listing]) {
+    years(comparison, listings);
+    comparison.end_part("the peer's years, alone and in its list");
+    days(comparison, listings);
+    comparison.end_part("the peer's days and dates, alone and in its list");
+}
+
+fn years(comparison: &mut Comparison, listings: &[Listing]) {
     for year in listings.iter().flat_map(|listing| &listing.years) {
         let alone = months::covered(year.calendar.number(), year.number);
         let name = (year.calendar.number(), year.number);
         comparison.compare(&name, &numbers(&alone), &numbers(year));
     }
-    comparison.end_part("the peer's years, alone and in its list");
+}
+
+fn days(comparison: &mut Comparison, listings: &[Listing]) {
     for (year, month) in listings.iter().flat_map(Listing::months) {
-        let [calendar, year, number, leap] = listing::name(year, month);
-        for (place, day) in month.days().enumerate() {
-            let day = day as u64;
-            let of_month = place as u64 + 1;
-            let date = date_number((year, number, month.leap, of_month));
-            look_up(comparison, Question::Date([calendar, day]), date);
-            look_up(
-                comparison,
-                Question::Day([calendar, year, number, leap, of_month]),
-                day,
-            );
-        }
+        days_of_month(comparison, year, month);
     }
-    comparison.end_part("the peer's days and dates, alone and in its list");
+}
+
+fn days_of_month(comparison: &mut Comparison, year: &Year, month: &Month) {
+    let [calendar, year, number, leap] = listing::name(year, month);
+    for (place, day) in month.days().enumerate() {
+        let day = day as u64;
+        let of_month = place as u64 + 1;
+        let date = date_number((year, number, month.leap, of_month));
+        look_up(comparison, Question::Date([calendar, day]), date);
+        look_up(
+            comparison,
+            Question::Day([calendar, year, number, leap, of_month]),
+            day,
+        );
+    }
 }
 
 fn numbers(year: &Year) -> (Vec<u32>, Vec<i64>) {

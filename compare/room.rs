@@ -1,4 +1,4 @@
-//! The room that a part of is lent to be written, with numbers in it beforehand,
+//! The room of which a part is lent to be written, with numbers in it beforehand,
 //! and what an answer leaves there.
 
 pub const ROOM: usize = 72;
