@@ -14,10 +14,9 @@ use Rattle.numbers.proofs.Rounding.{Between, between, between-yes, between-ends
 use Rattle.numbers.proofs.Tests.{every, at-each, at-each-row}
 use Rattle.units.specs.declared.Byo.{Byo}
 use Rattle.units.specs.Units.{dayByo, fenToByo}
-use Rattle.sun.specs.declared.SunRow.{SunRow}
 use Rattle.sun.specs.declared.Term.{Term}
 use Rattle.sun.specs.declared.Place.{Place}
-use Rattle.sun.specs.Sun.{solsticeRow, laterRows, year, sunRows, noRow, termOf, afterDays, onDay, sunPlace, sunShare, sunOf}
+use Rattle.sun.specs.Sun.{Row, solsticeRow, laterRows, year, sunRows, noRow, afterDays, onDay, sunPlace, sunShare, sunOf}
 use Rattle.sun.proofs.Terms.{Fair, fair, place-here, Found, found}
 
 -- the correction at the start and at the end of the day after n whole days in a term
@@ -34,24 +33,24 @@ dayTest : Term → ℕ → Bool
 dayTest t n = inside (start t n) && inside (end t n)
 
 -- each day that a printed row's term has begun
-abbrev daysTest : SunRow → Bool
-daysTest r = every (dayTest (termOf r)) 0 (r .0 + 1)
+abbrev daysTest : Row → Bool
+daysTest r = every (dayTest (r .term)) 0 (r .span .0 / dayByo + 1)
 
 days-tested : (i : ℕ) → i < 24 → T (daysTest (getD sunRows i noRow))
 unfolding every dayTest afterDays onDay nearest solsticeRow laterRows
 days-tested i h = at-each-row daysTest noRow sunRows tt i h
 
-record Tested (r : SunRow) : Type 0 where
+record Tested (r : Row) : Type 0 where
   row : Fair r
   days : T (daysTest r)
 
 in-day : (p : Place) → Found Tested p → Between (minus 1526) (nearest (sunShare p) (10000 * dayByo)) (plus 1526)
 unfolding dayTest sunShare
 in-day p f =
-    let t : Term = termOf (f .row) in
+    let t : Term = f .row .term in
     let n : ℕ = p .into .0 / dayByo in
     let row = f .holds .row in
-    let (first, last) = and-yes (inside (start t n)) (inside (end t n)) (at-each (dayTest t) 0 (f .row .0 + 1) (f .holds .days) n (omega arith) (omega arith)) in
+    let (first, last) = and-yes (inside (start t n)) (inside (end t n)) (at-each (dayTest t) 0 (f .row .span .0 / dayByo + 1) (f .holds .days) n (omega arith) (omega arith)) in
     rw (f .its-term)
     (between-ends (minus 1526) (plus 1526) (afterDays t n *ℤ pos dayByo) (onDay t n) dayByo (10000 * dayByo) (omega arith) (between-yes _ _ _ first) (between-yes _ _ _ last) (p .into .0 % dayByo) (omega arith))
 

@@ -14,10 +14,10 @@ use lib.Seq.{drop-cons}
 use mir.Facts.{and-yes}
 use Rattle.numbers.proofs.Tests.{every, at-each, at-each-row}
 use Rattle.units.specs.declared.Byo.{Byo}
-use Rattle.units.specs.Units.{dayFen, fenToByo}
-use Rattle.sun.specs.declared.SunRow.{SunRow}
+use Rattle.units.specs.Units.{dayByo, fenToByo}
+use Rattle.sun.specs.declared.Term.{Term}
 use Rattle.sun.specs.declared.Place.{Place}
-use Rattle.sun.specs.Sun.{solsticeRow, laterRows, sunRows, noRow, termOf, place, placeIn, year, sunPlace}
+use Rattle.sun.specs.Sun.{Row, solsticeRow, laterRows, sunRows, noRow, place, placeIn, year, sunPlace}
 use Rattle.sun.specs.Room.{lasting, startOf, TermAt}
 
 pub row-count : length sunRows ≡ 24
@@ -26,31 +26,26 @@ row-count = refl
 
 -- ---- what every row has, by one test over the table
 
-pub record Fair (r : SunRow) : Type 0 where
-  pub days : r .0 < 16
-  pub fen-below : r .1 < dayFen
-  pub byo-below : r .2 < 8
-  pub rate-small : natAbs (r .3) ≤ 5000
-  pub first-small : natAbs (r .4) ≤ 400000
-  pub sum-small : natAbs (r .5) ≤ 20000000
+pub record Fair (r : Row) : Type 0 where
+  pub span-small : r .span .0 < 16 * dayByo
+  pub rate-small : natAbs (r .term .rate) ≤ 5000
+  pub first-small : natAbs (r .term .first) ≤ 400000
+  pub sum-small : natAbs (r .term .sum) ≤ 20000000
 
-abbrev spanTest : SunRow → Bool
-spanTest r = ltb (r .0) 16 && ltb (r .1) dayFen && ltb (r .2) 8
+abbrev numbersTest : Term → Bool
+numbersTest t = leb (natAbs (t .rate)) 5000 && leb (natAbs (t .first)) 400000 && leb (natAbs (t .sum)) 20000000
 
-abbrev numbersTest : SunRow → Bool
-numbersTest r = leb (natAbs (r .3)) 5000 && leb (natAbs (r .4)) 400000 && leb (natAbs (r .5)) 20000000
+abbrev fairTest : Row → Bool
+fairTest r = ltb (r .span .0) (16 * dayByo) && numbersTest (r .term)
 
-opened : (r : SunRow) → T (spanTest r && numbersTest r) → Fair r
+opened : (r : Row) → T (fairTest r) → Fair r
 opened r h =
-    let (spans, numbers) = and-yes (spanTest r) (numbersTest r) h in
-    let (days-fen, b) = and-yes (ltb (r .0) 16 && ltb (r .1) dayFen) (ltb (r .2) 8) spans in
-    let (days, f) = and-yes (ltb (r .0) 16) (ltb (r .1) dayFen) days-fen in
-    let (rate-first, sum) = and-yes (leb (natAbs (r .3)) 5000 && leb (natAbs (r .4)) 400000) (leb (natAbs (r .5)) 20000000) numbers in
-    let (rate, first) = and-yes (leb (natAbs (r .3)) 5000) (leb (natAbs (r .4)) 400000) rate-first in
+    let t : Term = r .term in
+    let (span, numbers) = and-yes (ltb (r .span .0) (16 * dayByo)) (numbersTest t) h in
+    let (rate-first, sum) = and-yes (leb (natAbs (t .rate)) 5000 && leb (natAbs (t .first)) 400000) (leb (natAbs (t .sum)) 20000000) numbers in
+    let (rate, first) = and-yes (leb (natAbs (t .rate)) 5000) (leb (natAbs (t .first)) 400000) rate-first in
     record {
-      days = ltb→lt _ _ days;
-      fen-below = ltb→lt _ _ f;
-      byo-below = ltb→lt _ _ b;
+      span-small = ltb→lt _ _ span;
       rate-small = leb→le _ _ rate;
       first-small = leb→le _ _ first;
       sum-small = leb→le _ _ sum;
@@ -58,44 +53,44 @@ opened r h =
 
 pub fair : (i : ℕ) → i < 24 → Fair (getD sunRows i noRow)
 unfolding every solsticeRow laterRows
-fair i h = opened _ (at-each-row (λ (r : SunRow). spanTest r && numbersTest r) noRow sunRows tt i h)
+fair i h = opened _ (at-each-row fairTest noRow sunRows tt i h)
 
 -- ---- the search
 
 -- it stops at a term that lasts longer ..
-pub place-here : (r : SunRow) (rs : List SunRow) (x : ℕ) → x < termOf r .span .0 → placeIn r rs x ≡ place (termOf r) x
+pub place-here : (r : Row) (rs : List Row) (x : ℕ) → x < r .span .0 → placeIn r rs x ≡ place (r .term) x
 unfolding placeIn
 place-here r [] x h = refl
-place-here r (q ∷ qs) x h = rw (lt-ltb x (termOf r .span .0) h, placeIn)
+place-here r (q ∷ qs) x h = rw (lt-ltb x (r .span .0) h, placeIn)
 
 -- .. and goes on past one that is over, to the next row of the list
-pub place-next : (l : List SunRow) (i x : ℕ) → i + 1 < length l → termOf (getD l i noRow) .span .0 ≤ x → placeIn (getD l i noRow) (drop (i + 1) l) x ≡ placeIn (getD l (i + 1) noRow) (drop (i + 1 + 1) l) (x - termOf (getD l i noRow) .span .0)
+pub place-next : (l : List Row) (i x : ℕ) → i + 1 < length l → (getD l i noRow) .span .0 ≤ x → placeIn (getD l i noRow) (drop (i + 1) l) x ≡ placeIn (getD l (i + 1) noRow) (drop (i + 1 + 1) l) (x - (getD l i noRow) .span .0)
 unfolding placeIn
 place-next l i x h over =
-    rw (drop-cons l (i + 1) noRow, le-ltb x (termOf (getD l i noRow) .span .0) over, placeIn) (rw (add-one (i + 1)))
+    rw (drop-cons l (i + 1) noRow, le-ltb x ((getD l i noRow) .span .0) over, placeIn) (rw (add-one (i + 1)))
 
 -- one row more lasts as much longer as its term
-lasting-next : (l : List SunRow) (n : ℕ) → n < length l → lasting (take (n + 1) l) ≡ lasting (take n l) + termOf (getD l n noRow) .span .0
+lasting-next : (l : List Row) (n : ℕ) → n < length l → lasting (take (n + 1) l) ≡ lasting (take n l) + (getD l n noRow) .span .0
 lasting-next [] n h = absurd (omega arith)
 lasting-next (r ∷ rs) zero h = omega arith
 lasting-next (r ∷ rs) (suc n) h =
     let e : suc n + 1 ≡ suc (n + 1) = omega arith in
     rw e (omega (arith, lasting-next rs n (omega arith)))
 
-start-next : (n : ℕ) → n < 24 → startOf (n + 1) ≡ startOf n + termOf (getD sunRows n noRow) .span .0
+start-next : (n : ℕ) → n < 24 → startOf (n + 1) ≡ startOf n + (getD sunRows n noRow) .span .0
 start-next n h = lasting-next sunRows n (omega (arith, row-count))
 
 -- past so many terms the search goes on from there
 passed : (n x : ℕ) → n < 24 → startOf n ≤ x → placeIn (getD sunRows n noRow) (drop (n + 1) sunRows) (x - startOf n) ≡ placeIn solsticeRow laterRows x
 passed zero x h from = let e : x - startOf 0 ≡ x = omega arith in rw e
 passed (suc n) x h from =
-    let next : startOf (suc n) ≡ startOf n + termOf (getD sunRows n noRow) .span .0 = sym (ap startOf (add-one n)) ∙ start-next n (omega arith) in
-    let rest : x - startOf n - termOf (getD sunRows n noRow) .span .0 ≡ x - startOf (suc n) = omega (arith, next) in
+    let next : startOf (suc n) ≡ startOf n + (getD sunRows n noRow) .span .0 = sym (ap startOf (add-one n)) ∙ start-next n (omega arith) in
+    let rest : x - startOf n - (getD sunRows n noRow) .span .0 ≡ x - startOf (suc n) = omega (arith, next) in
     sym (place-next sunRows n (x - startOf n) (omega (arith, row-count)) (omega (arith, next, from)) ∙ rw (add-one n, rest))
     ∙ passed n x (omega arith) (omega (arith, next, from))
 
 -- what is found of a moment that falls in a term
-pub place-at : (n x : ℕ) → TermAt n x → place (termOf (getD sunRows n noRow)) (x - startOf n) ≡ placeIn solsticeRow laterRows x
+pub place-at : (n x : ℕ) → TermAt n x → place (getD sunRows n noRow .term) (x - startOf n) ≡ placeIn solsticeRow laterRows x
 place-at n x h =
     sym (place-here (getD sunRows n noRow) (drop (n + 1) sunRows) (x - startOf n) (omega (arith, start-next n (h .one-of-24), h .from, h .to))) ∙ passed n x (h .one-of-24) (h .from)
 
@@ -147,38 +142,38 @@ module _ (x n : ℕ) (low : n * 2045370 ≤ 2 * x + 1022685) (high : 2 * x + 102
       record { one-of-24 = few; from = omega (arith, half-between (n - 1) few .from, low, not-first to); to = rw again to }
 
 -- what is found: a row's term, with what holds of every row, and a place within its span
-pub record Found (P : SunRow → Type 0) (p : Place) : Type 0 where
-  pub row : SunRow
-  pub its-term : p .term ≡ termOf row
+pub record Found (P : Row → Type 0) (p : Place) : Type 0 where
+  pub row : Row
+  pub its-term : p .term ≡ row .term
   pub holds : P row
-  pub within : p .into .0 < termOf row .span .0
+  pub within : p .into .0 < row .span .0
 
-found-in : (P : SunRow → Type 0) (r : SunRow) (rs : List SunRow) (x : ℕ) → ((i : ℕ) → i < length (r ∷ rs) → P (getD (r ∷ rs) i noRow)) → x < lasting (r ∷ rs) → Found P (placeIn r rs x)
+found-in : (P : Row → Type 0) (r : Row) (rs : List Row) (x : ℕ) → ((i : ℕ) → i < length (r ∷ rs) → P (getD (r ∷ rs) i noRow)) → x < lasting (r ∷ rs) → Found P (placeIn r rs x)
 unfolding placeIn
 found-in P r [] x rows h = record { row = r; its-term = refl; holds = rows 0 (omega arith); within = omega arith }
 found-in P r (q ∷ qs) x rows h =
-    by-span (ltb x (termOf r .span .0)) refl
-    (λ over. found-in P q qs (x - termOf r .span .0) (λ i g. rows (suc i) (omega arith)) (omega arith))
+    by-span (ltb x (r .span .0)) refl
+    (λ over. found-in P q qs (x - r .span .0) (λ i g. rows (suc i) (omega arith)) (omega arith))
   where
-    by-span : (b : Bool) → ltb x (termOf r .span .0) ≡ b → (termOf r .span .0 ≤ x → Found P (placeIn q qs (x - termOf r .span .0))) → Found P (elim b as (λ _. Place) [ true ↦ place (termOf r) x | false ↦ placeIn q qs (x - termOf r .span .0) ])
+    by-span : (b : Bool) → ltb x (r .span .0) ≡ b → (r .span .0 ≤ x → Found P (placeIn q qs (x - r .span .0))) → Found P (elim b as (λ _. Place) [ true ↦ place (r .term) x | false ↦ placeIn q qs (x - r .span .0) ])
     by-span true e later =
-        record { row = r; its-term = refl; holds = rows 0 (omega arith); within = ltb-true x (termOf r .span .0) e }
-    by-span false e later = later (ltb-false x (termOf r .span .0) e)
+        record { row = r; its-term = refl; holds = rows 0 (omega arith); within = ltb-true x (r .span .0) e }
+    by-span false e later = later (ltb-false x (r .span .0) e)
 
 -- the 24 spans fill the year
 pub year-filled : lasting sunRows ≡ fenToByo year .0
 unfolding solsticeRow laterRows
 year-filled = refl
 
-pub found : (P : SunRow → Type 0) → ((i : ℕ) → i < 24 → P (getD sunRows i noRow)) → (at : Byo) → Found P (sunPlace at)
+pub found : (P : Row → Type 0) → ((i : ℕ) → i < 24 → P (getD sunRows i noRow)) → (at : Byo) → Found P (sunPlace at)
 unfolding sunPlace
 found P rows at =
     found-in P solsticeRow laterRows _ (λ i g. rows i (omega (arith, row-count)))
     (rw year-filled (mod-lt (at .0) (omega arith)))
 
 -- the last twelve spans are the first twelve in reverse
-abbrev span : SunRow → List ℕ
-span r = r .0 ∷ r .1 ∷ r .2 ∷ []
+abbrev span : Row → ℕ
+span r = r .span .0
 
 mirrored : map span (drop 12 sunRows) ≡ reverse (map span (take 12 sunRows))
 unfolding solsticeRow laterRows

@@ -5,12 +5,16 @@ use lib.IntN.{natAbs}
 use lib.ListN.{take}
 use Rattle.sun.specs.declared.SunRow.{SunRow}
 use Rattle.sun.specs.declared.Term.{Term}
-use Rattle.sun.specs.Sun.{termOf, sunRows}
+use Rattle.sun.specs.Sun.{Row, sunRows}
+
+-- a term's numbers side by side
+abbrev pub numbersOf : Term → SunRow
+numbersOf t = (t .rate, t .first, t .sum)
 
 -- how long the terms of some rows last together, in byo
-abbrev pub lasting : List SunRow → ℕ
+abbrev pub lasting : List Row → ℕ
 lasting [] = 0
-lasting (r ∷ rs) = termOf r .span .0 + lasting rs
+lasting (r ∷ rs) = r .span .0 + lasting rs
 
 -- where a term starts, counted from the solstice
 abbrev pub startOf : ℕ → ℕ

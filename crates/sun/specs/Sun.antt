@@ -9,20 +9,24 @@ use Rattle.numbers.specs.Rounding.{nearest}
 use Rattle.units.specs.declared.Byo.{Byo}
 use Rattle.units.specs.declared.Fen.{Fen}
 use Rattle.units.specs.Units.{fen, byo, dayByo, fenToByo}
-use Rattle.sun.specs.declared.SunRow.{SunRow}
 use Rattle.sun.specs.declared.Term.{Term}
 use Rattle.sun.specs.declared.Place.{Place}
 
--- a true term as printed: days, fen and byo of its span; rate, first and sum, with `_` for the decimal point
-abbrev pub row : ℕ → ℕ → ℕ → ℤ → ℤ → ℤ → SunRow
-row days f b rate first sum = (days, f, b, rate, first, sum)
+-- a row: the span of a true term, and its numbers
+pub record Row : Type 0 where
+  pub span : Byo
+  pub term : Term
+
+-- .. as printed: days, fen and byo of the span; rate, first and sum in ten-thousandths of a fen, with `_` for the decimal point
+abbrev pub row : ℕ → ℕ → ℕ → ℤ → ℤ → ℤ → Row
+row days f b rate first sum = record { span = byo (days * dayByo + fenToByo (fen f) .0 + b); term = record { rate = rate; first = first; sum = sum } }
 
 -- the term of the solstice, Dongzhi
-unfoldable pub solsticeRow : SunRow
+unfoldable pub solsticeRow : Row
 solsticeRow = row 14 4235 5 (minus 0_3695) (plus 33_4511) (plus 0)
 
 -- the 23 that follow, from Xiaohan to Daxue
-unfoldable pub laterRows : List SunRow
+unfoldable pub laterRows : List Row
 laterRows =
     row 14 5235 5 (minus 0_3606) (plus 28_0389) (plus 449_0000) ∷
     row 14 6235 5 (minus 0_3519) (plus 22_6998) (plus 823_0000) ∷
@@ -48,25 +52,21 @@ laterRows =
     row 14 5235 5 (plus 0_3695) (plus 23_0590) (minus 823_0000) ∷
     row 14 4235 5 (plus 0_3695) (plus 28_4618) (minus 449_0000) ∷ []
 
-abbrev pub sunRows : List SunRow
+abbrev pub sunRows : List Row
 sunRows = solsticeRow ∷ laterRows
 
 -- what stands for a row that there is not
-abbrev pub noRow : SunRow
+abbrev pub noRow : Row
 noRow = row 0 0 0 (plus 0) (plus 0) (plus 0)
-
--- a printed row as a term: its span in byo; its rate, first and sum in ten-thousandths of a fen
-abbrev pub termOf : SunRow → Term
-termOf r = record { span = byo (r .0 * dayByo + fenToByo (fen (r .1)) .0 + r .2); rate = r .3; first = r .4; sum = r .5 }
 
 abbrev pub place : Term → ℕ → Place
 place t x = record { term = t; into = byo x }
 
 -- x byo after the start of a row's term, which other rows follow: the term whose span holds that moment, start counted in
-unfoldable pub placeIn : SunRow → List SunRow → ℕ → Place
-placeIn r [] x = place (termOf r) x
+unfoldable pub placeIn : Row → List Row → ℕ → Place
+placeIn r [] x = place (r .term) x
 placeIn r (q ∷ qs) x =
-    elim (ltb x (termOf r .span .0)) [ true ↦ place (termOf r) x | false ↦ placeIn q qs (x - termOf r .span .0) ]
+    elim (ltb x (r .span .0)) [ true ↦ place (r .term) x | false ↦ placeIn q qs (x - r .span .0) ]
 
 -- from a solstice to the next
 abbrev pub year : Fen

@@ -1,20 +1,18 @@
 use units::BYO_IN_DAY;
 use units::BYO_IN_FEN;
 use units::Byo;
-use units::Fen;
 ghost use mathlib.Core.Path.{_≡_};
 ghost use Prim.Native.Nat.{_<_, _≤_};
 ghost use lib.ListN.{getD};
 ghost use Rattle.units.specs.Units.{byo, fenToByo};
-ghost use Rattle.sun.specs.Sun.{solsticeRow, laterRows, sunRows, noRow, termOf, placeIn, year, afterDays, onDay, sunOf};
-ghost use Rattle.sun.specs.Room.{startOf, TermAt, Narrow};
+ghost use Rattle.sun.specs.Sun.{solsticeRow, laterRows, sunRows, noRow, placeIn, year, afterDays, onDay, sunOf};
+ghost use Rattle.sun.specs.Room.{numbersOf, startOf, TermAt, Narrow};
 
-// A row as the page prints it: days, fen and byo of a span; rate, first and sum in 1/10,000 fen.
-pub struct SunRow(pub u64, pub u64, pub u64, pub i64, pub i64, pub i64);
+// A row as the page prints it: rate, first and sum in 1/10,000 fen. (Its span is in `start_of`.)
+pub struct SunRow(pub i64, pub i64, pub i64);
 
-// A true term: how long it lasts; its rate, first and sum in 1/10,000 fen.
+// A true term's numbers, in 1/10,000 fen.
 pub struct Term {
-    pub span: Byo,
     pub rate: i64,
     pub first: i64,
     pub sum: i64,
@@ -31,54 +29,52 @@ const YEAR: u64 = 3068055 * BYO_IN_FEN;
 
 const MEAN_TERM: u64 = YEAR / 24;
 
-// The 24 true terms from the solstice (003, Tables 1 and 2).
+// The 24 true terms from the solstice (003, Table 2).
 fn row_of(number: usize) -> SunRow
     requires { ⌜ number < 24 ⌝ }
-    ensures { λ r. ⌜ r ≡ getD sunRows number noRow ⌝ }
+    ensures { λ r. ⌜ r ≡ numbersOf (getD sunRows number noRow .term) ⌝ }
 {
     match number {
-        0 => SunRow(14, 4235, 5, -0_3695, 33_4511, 0),
-        1 => SunRow(14, 5235, 5, -0_3606, 28_0389, 449_0000),
-        2 => SunRow(14, 6235, 5, -0_3519, 22_6998, 823_0000),
-        3 => SunRow(14, 7235, 5, -0_4068, 17_8923, 1122_0000),
-        4 => SunRow(15, 35, 5, -0_3998, 11_7966, 1346_0000),
-        5 => SunRow(15, 1235, 5, -0_3998, 5_7986, 1481_0000),
-        6 => SunRow(15, 2435, 5, -0_3779, -0_2433, 1526_0000),
-        7 => SunRow(15, 3635, 5, -0_3634, -6_1254, 1481_0000),
-        8 => SunRow(15, 4835, 5, -0_2987, -12_2048, 1346_0000),
-        9 => SunRow(15, 5835, 5, -0_2919, -16_9060, 1122_0000),
-        10 => SunRow(15, 6835, 5, -0_2854, -21_5362, 823_0000),
-        11 => SunRow(15, 7835, 5, -0_2854, -26_0498, 449_0000),
-        12 => SunRow(15, 7835, 5, 0_2854, -30_3119, 0),
-        13 => SunRow(15, 6835, 5, 0_2919, -25_8126, -449_0000),
-        14 => SunRow(15, 5835, 5, 0_2987, -21_2454, -823_0000),
-        15 => SunRow(15, 4835, 5, 0_3634, -17_0296, -1122_0000),
-        16 => SunRow(15, 3635, 5, 0_3779, -11_4744, -1346_0000),
-        17 => SunRow(15, 2435, 5, 0_3779, -5_6429, -1481_0000),
-        18 => SunRow(15, 1235, 5, 0_3998, 0_1432, -1526_0000),
-        19 => SunRow(15, 35, 5, 0_4068, 6_1488, -1481_0000),
-        20 => SunRow(14, 7235, 5, 0_3519, 12_6336, -1346_0000),
-        21 => SunRow(14, 6235, 5, 0_3606, 17_8043, -1122_0000),
-        22 => SunRow(14, 5235, 5, 0_3695, 23_0590, -823_0000),
-        _ => SunRow(14, 4235, 5, 0_3695, 28_4618, -449_0000),
+        0 => SunRow(-0_3695, 33_4511, 0),
+        1 => SunRow(-0_3606, 28_0389, 449_0000),
+        2 => SunRow(-0_3519, 22_6998, 823_0000),
+        3 => SunRow(-0_4068, 17_8923, 1122_0000),
+        4 => SunRow(-0_3998, 11_7966, 1346_0000),
+        5 => SunRow(-0_3998, 5_7986, 1481_0000),
+        6 => SunRow(-0_3779, -0_2433, 1526_0000),
+        7 => SunRow(-0_3634, -6_1254, 1481_0000),
+        8 => SunRow(-0_2987, -12_2048, 1346_0000),
+        9 => SunRow(-0_2919, -16_9060, 1122_0000),
+        10 => SunRow(-0_2854, -21_5362, 823_0000),
+        11 => SunRow(-0_2854, -26_0498, 449_0000),
+        12 => SunRow(0_2854, -30_3119, 0),
+        13 => SunRow(0_2919, -25_8126, -449_0000),
+        14 => SunRow(0_2987, -21_2454, -823_0000),
+        15 => SunRow(0_3634, -17_0296, -1122_0000),
+        16 => SunRow(0_3779, -11_4744, -1346_0000),
+        17 => SunRow(0_3779, -5_6429, -1481_0000),
+        18 => SunRow(0_3998, 0_1432, -1526_0000),
+        19 => SunRow(0_4068, 6_1488, -1481_0000),
+        20 => SunRow(0_3519, 12_6336, -1346_0000),
+        21 => SunRow(0_3606, 17_8043, -1122_0000),
+        22 => SunRow(0_3695, 23_0590, -823_0000),
+        _ => SunRow(0_3695, 28_4618, -449_0000),
     }
 }
 
 fn true_term(number: usize) -> Term
     requires { ⌜ number < 24 ⌝ }
-    ensures { λ r. ⌜ r ≡ termOf (getD sunRows number noRow) ⌝ }
+    ensures { λ r. ⌜ r ≡ getD sunRows number noRow .term ⌝ }
 {
     let row = row_of(number);
-    let span = row.0 * BYO_IN_DAY + units::fen_to_byo(Fen(row.1)).0 + row.2;
     Term {
-        span: Byo(span),
-        rate: row.3,
-        first: row.4,
-        sum: row.5,
+        rate: row.0,
+        first: row.1,
+        sum: row.2,
     }
 }
 
-// From the solstice to the start of a term, all spans before it; for 24, to the end of the year.
+// From the solstice to the start of a term, all spans before it (003, Table 1); for 24, to the end of the year.
 fn start_of(number: usize) -> Byo
     requires { ⌜ number ≤ 24 ⌝ }
     ensures { λ r. ⌜ r ≡ byo (startOf number) ⌝ }
