@@ -7,7 +7,7 @@ use native.Mathlib.Omega.{arith}
 use borrow.Author.Tests.{lt-leb, le-leb}
 use lib.ListN.{length, getD, set, take, drop}
 use lib.Seq.{sets, sets-eq, take-suc, length-take-le}
-use Rattle.numbers.specs.Answer.{Answer, given, refused, then, refusalIn, leftIn}
+use Rattle.numbers.specs.Answer.{Answer, given, refused, refusalIn, leftIn}
 use Rattle.numbers.proofs.Answers.{fails, holds}
 use Rattle.calendar.specs.declared.Month.{Month}
 use Rattle.calendar.specs.Years.{noMonth}
@@ -48,12 +48,12 @@ module _ {A B : Type 0} (size : ℕ) (numbers : A → List B) (answer : Answer A
   -- .. the call behind it refuses
   pub passed-on : (n : ℕ) → size ≤ length out → answer ≡ refused n → Left n out
   unfolding written
-  passed-on n h e = by n out (refused n) (holds 6 _ _ (le-leb _ _ h) ∙ ap (λ a. then a (λ a. given (numbers a ++ drop size out))) e) (refl, refl)
+  passed-on n h e = by n out (refused n) (holds 6 _ _ (le-leb _ _ h) ∙ rw e) (refl, refl)
 
   -- .. it answers, and its numbers have been stored
   pub stored : (a : A) (left : List B) → size ≤ length out → answer ≡ given a → length (numbers a) ≡ size → left ≡ sets out 0 (numbers a) → Left 0 left
   unfolding written
-  stored a left h e all l = by 0 left (given (numbers a ++ drop size out)) (holds 6 _ _ (le-leb _ _ h) ∙ ap (λ a. then a (λ a. given (numbers a ++ drop size out))) e) (refl, l ∙ sets-front out (numbers a) size all h)
+  stored a left h e all l = by 0 left (given (numbers a ++ drop size out)) (holds 6 _ _ (le-leb _ _ h) ∙ rw e) (refl, l ∙ sets-front out (numbers a) size all h)
 
 -- a year's places: each has four numbers, which go behind those of the places before it
 places-append : (ms ns : List Month) → placesNumbers (ms ++ ns) ≡ placesNumbers ms ++ placesNumbers ns
