@@ -1,6 +1,7 @@
 //! A plain array of all months of each calendar, in order, to be searched.
 
 use crate::questions::{Date, Day, Year};
+use crate::runs::Run;
 use crate::sides::{date_number, put_months, Side};
 use crate::sieveflicker::raw::{RECORD_BYTES, RECORD_NUMBERS, YEAR_NUMBERS};
 use peer::calendar::Calendar;
@@ -81,6 +82,27 @@ impl Array {
         (1..=month.length)
             .contains(&date.day)
             .then(|| month.first_day + date.day - 1)
+    }
+
+    pub fn extended(&self, run: &Run) -> Run {
+        let mut run = run.clone();
+        let next = Year {
+            calendar: run.calendar.into(),
+            number: u32::from(run.first_year) + u32::from(run.years),
+        };
+        for month in self.months_of(next) {
+            let place = usize::from(run.count);
+            run.first_days[place] = month.first_day;
+            run.last_dates[place] = date_number(
+                month.year.into(),
+                month.number.into(),
+                month.leap,
+                month.length.into(),
+            ) as u32;
+            run.count += 1;
+        }
+        run.years += 1;
+        run
     }
 
     pub fn record_of(&self, year: Year) -> Option<[u8; RECORD_BYTES]> {

@@ -1,13 +1,17 @@
 //! The questions of a run: drawn at random, and the same in every run.
 
 use crate::array::Array;
-use crate::questions::{Date, Day, Record, Year};
+use crate::questions::{Changed, Date, Day, DayInRun, Record, Year};
+use crate::runs::{Change, Run};
 use peer::calendar::{self, Calendar};
 use peer::months;
 use std::ops::RangeInclusive;
 
 /// So many that no processor learns the course of a search by heart.
 pub const COUNT: usize = 20_000;
+
+/// Fewer where each call takes a hundred times as long.
+pub const COUNT_ON_RUNS: usize = 2_000;
 
 const SEED: u64 = 0x2545_F491_4F6C_DD1D;
 
@@ -20,7 +24,11 @@ impl Random {
     }
 
     fn draw<T: Copy>(&mut self, from: &[T]) -> Vec<T> {
-        (0..COUNT).map(|_| from[self.below(from.len())]).collect()
+        (0..COUNT).map(|_| self.one_of(from)).collect()
+    }
+
+    fn one_of<T: Copy>(&mut self, from: &[T]) -> T {
+        from[self.below(from.len())]
     }
 
     fn below(&mut self, bound: usize) -> usize {
@@ -72,6 +80,38 @@ pub fn years(random: &mut Random) -> Vec<Year> {
         }));
     }
     random.draw(&years)
+}
+
+/// A run of so many years from each covered year that so many and one more
+/// follow.
+pub fn runs(years: i64) -> Vec<Run> {
+    let mut runs = Vec::new();
+    for calendar in calendar::ALL {
+        let covered = months::covered_years(calendar);
+        let followed = covered.windows(years as usize + 1);
+        runs.extend(followed.map(|held| Run::of(&held[..years as usize])));
+    }
+    runs
+}
+
+pub fn days_in_runs<'a>(random: &mut Random, runs: &'a [Run]) -> Vec<DayInRun<'a>> {
+    let day = |_| {
+        let run = &runs[random.below(runs.len())];
+        let days: Vec<u32> = run.days().collect();
+        DayInRun {
+            run,
+            day: random.one_of(&days),
+        }
+    };
+    (0..COUNT_ON_RUNS).map(day).collect()
+}
+
+pub fn changes<'a>(random: &mut Random, runs: &'a [Run], change: Change) -> Vec<Changed<'a>> {
+    let changed = |_| Changed {
+        run: &runs[random.below(runs.len())],
+        change,
+    };
+    (0..COUNT_ON_RUNS).map(changed).collect()
 }
 
 pub fn records(array: &Array, years: &[Year]) -> Vec<Record> {

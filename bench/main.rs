@@ -6,6 +6,7 @@ mod array;
 mod inputs;
 mod measure;
 mod questions;
+mod runs;
 mod sides;
 #[path = "../bindings/sieveflicker.rs"]
 mod sieveflicker;
@@ -14,6 +15,7 @@ use array::Array;
 use inputs::Random;
 use measure::compare;
 use questions::{Day, MonthsOf, RecordOf};
+use runs::Change;
 use sides::{Library, Peer, Sides};
 
 fn main() {
@@ -23,11 +25,12 @@ fn main() {
         array: Array::worked_out(),
     };
     let mut random = Random::seeded();
-    measure::print_head(inputs::COUNT);
+    measure::print_head(inputs::COUNT, inputs::COUNT_ON_RUNS);
     let days = inputs::days(&mut random);
     compare_days(&sides, &days);
     compare_dates(&sides, &days);
     compare_years(&sides, &mut random);
+    compare_runs(&sides, &mut random);
 }
 
 fn compare_days(sides: &Sides, days: &[(&str, Vec<Day>)]) {
@@ -51,4 +54,15 @@ fn compare_years(sides: &Sides, random: &mut Random) {
     compare(sides, "a year's months", &months_of);
     compare(sides, "a record written", &record_of);
     compare(sides, "a record read", &records);
+}
+
+fn compare_runs(sides: &Sides, random: &mut Random) {
+    let full = inputs::runs(14);
+    let days = inputs::days_in_runs(random, &full);
+    compare(sides, "day to date in a run of 14 years", &days);
+    let shorter = inputs::runs(13);
+    let extended = inputs::changes(random, &shorter, Change::Extend);
+    compare(sides, "a run of 13 years extended", &extended);
+    let dropped = inputs::changes(random, &full, Change::Drop);
+    compare(sides, "oldest dropped of 14 years", &dropped);
 }

@@ -12,8 +12,10 @@ struct Round {
     sum_of_answers: u64,
 }
 
-pub fn print_head(calls: usize) {
-    println!("nanoseconds per call, the best of {ROUNDS} rounds of {calls} calls:");
+pub fn print_head(calls: usize, on_runs: usize) {
+    println!(
+        "nanoseconds per call, the best of {ROUNDS} rounds of {calls} calls, on runs of {on_runs}:"
+    );
     println!(
         "{:<34}{:>10}{:>10}{:>10}{:>15}{:>15}",
         "", "library", "peer", "array", "library/peer", "library/array"

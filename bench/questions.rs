@@ -1,6 +1,7 @@
 //! What is asked, and how it is put to a side: the answer counts as one number,
 //! so that the sides can be held to each other.
 
+use crate::runs::{Change, Run};
 use crate::sides::Side;
 use crate::sieveflicker::raw::{RECORD_BYTES, RECORD_NUMBERS, YEAR_NUMBERS};
 
@@ -38,6 +39,17 @@ pub struct RecordOf(pub Year);
 /// Its numbers are asked for.
 pub struct Record(pub [u8; RECORD_BYTES]);
 
+/// The date of a day of the run is asked for.
+pub struct DayInRun<'a> {
+    pub run: &'a Run,
+    pub day: u32,
+}
+
+pub struct Changed<'a> {
+    pub run: &'a Run,
+    pub change: Change,
+}
+
 impl Question for Day {
     fn put_to<S: Side>(&self, side: &S) -> u64 {
         side.date(*self)
@@ -71,5 +83,17 @@ impl Question for Record {
         let mut numbers = [0; RECORD_NUMBERS];
         side.read_record(&self.0, &mut numbers);
         numbers.into_iter().map(u64::from).sum()
+    }
+}
+
+impl Question for DayInRun<'_> {
+    fn put_to<S: Side>(&self, side: &S) -> u64 {
+        side.date_in(self.run, self.day)
+    }
+}
+
+impl Question for Changed<'_> {
+    fn put_to<S: Side>(&self, side: &S) -> u64 {
+        side.changed(self.run, self.change).sum()
     }
 }

@@ -4,10 +4,11 @@
 
 use crate::array::Array;
 use crate::questions::{Date, Day, Year};
+use crate::runs::Runs;
 use crate::sieveflicker::raw::{self, RECORD_BYTES, RECORD_NUMBERS, YEAR_NUMBERS};
 use peer::{dates, months, record};
 
-pub trait Side {
+pub trait Side: Runs {
     /// As year * 10000 + month * 100 + day, and 100000000 more in a leap month.
     fn date(&self, day: Day) -> u64;
     fn day(&self, date: Date) -> u64;

@@ -8,14 +8,14 @@ use borrow.Author.Tests.{leb-true}
 use Rattle.numbers.specs.Answer.{given}
 use Rattle.numbers.proofs.Answers.{one-given}
 use Rattle.months.specs.declared.Calendar.{Calendar}
-use Rattle.months.specs.declared.Span.{Span}
+use Rattle.months.specs.declared.Begun.{Begun}
 use Rattle.months.specs.Rules.{Rules, rulesOf}
-use Rattle.months.specs.Months.{spanned}
-use Rattle.months.specs.Year.{OfYear}
-use Rattle.months.specs.Room.{Covering, Fitting}
+use Rattle.months.specs.Months.{begun}
+use Rattle.months.specs.Year.{MonthDays, OfYear}
+use Rattle.months.specs.Room.{Covering, Starting}
 use Rattle.months.proofs.Calendars.{steady}
-use Rattle.months.proofs.CoveredYears.{covered-year, edges, its-days, starts-covered, ends-covered, covering}
-use Rattle.asked.specs.Room.{CoveredYear, CoveredSpan}
+use Rattle.months.proofs.CoveredYears.{covered-year, days-to-next, edges, its-days, starts-covered, ends-covered, covering}
+use Rattle.asked.specs.Room.{CoveredYear, CoveredMonth}
 use Rattle.asked.proofs.Steps.{in-time, regular-there}
 use Rattle.asked.proofs.Given.{asked-given, month-given}
 use Rattle.asked.proofs.Names.{Named, named}
@@ -50,36 +50,43 @@ module _ (c : Calendar) (y : ℕ) (covered : CoveredYear (rulesOf c) y) where
       let covers = month-covering (regularMonth (rulesOf c) y m) (name-found m false (regular-there (rulesOf c) y m low high) .of-year) in
       omega (arith, covers .to, edges c .last-month)
 
--- the days of a covered month
-pub record SpanDays (r : Rules) (s : Span) : Type 0 where
-  pub at-least : s .start + 29 ≤ s .next
-  pub at-most : s .next ≤ s .start + 30
-  pub from : r .dayZero ≤ s .start
-  pub to : s .next ≤ r .dayZero + 2 ^ 22
-  pub fits : Fitting r s
+  -- .. and the month after has 29 or 30 days, as all do
+  pub after-days : (m : ℕ) → 1 ≤ m → m ≤ 12 → MonthDays (rulesOf c) (regularMonth (rulesOf c) y m + 1)
+  after-days m low high =
+      let covers = month-covering (regularMonth (rulesOf c) y m) (name-found m false (regular-there (rulesOf c) y m low high) .of-year) in
+      days-to-next c (regularMonth (rulesOf c) y m + 1) (omega (arith, covers .from)) (omega (arith, covers .to))
 
-pub span-days : (c : Calendar) (s : Span) → CoveredSpan (rulesOf c) s → SpanDays (rulesOf c) s
-span-days c s h =
+-- the days of a covered month
+pub record MonthRoom (r : Rules) (b : Begun) : Type 0 where
+  pub at-least : b .start + 29 ≤ r .start (b .month + 1)
+  pub at-most : r .start (b .month + 1) ≤ b .start + 30
+  pub days : MonthDays r (b .month)
+  pub from : r .dayZero ≤ b .start
+  pub to : r .start (b .month + 1) ≤ r .dayZero + 2 ^ 22
+  pub fits : Starting r b
+
+pub month-room : (c : Calendar) (b : Begun) → CoveredMonth (rulesOf c) b → MonthRoom (rulesOf c) b
+month-room c b h =
     let r = rulesOf c in
-    let k = s .month in
+    let k = b .month in
     let covers = h .covering in
-    let start : s .start ≡ r .start k = ap (λ s. s .start) (h .own) in
-    let next : s .next ≡ r .start (k + 1) = ap (λ s. s .next) (h .own) in
+    let start : b .start ≡ r .start k = ap (λ b. b .start) (h .own) in
     let days = its-days c k covers in
     record {
-      at-least = omega (arith, start, next, days .at-least);
-      at-most = omega (arith, start, next, days .at-most);
+      at-least = omega (arith, start, days .at-least);
+      at-most = omega (arith, start, days .at-most);
+      days = days;
       from = omega (arith, start, starts-covered c k covers, edges c .first-day);
-      to = omega (arith, next, ends-covered c k covers, edges c .last-day);
+      to = omega (arith, ends-covered c k covers, edges c .last-day);
       fits = record { own = h .own; small = omega (arith, covers .to, edges c .last-month) };
     }
 
 -- a month that is asked for and found is covered
-pub asked-span : (c y m : ℕ) (leap : Bool) (k : Calendar) (s : Span) → monthAsked c y m leap ≡ given (k, s) → CoveredSpan (rulesOf k) s
-asked-span c y m leap k s e =
+pub asked-month-covered : (c y m : ℕ) (leap : Bool) (k : Calendar) (b : Begun) → monthAsked c y m leap ≡ given (k, b) → CoveredMonth (rulesOf k) b
+asked-month-covered c y m leap k b e =
     let r = rulesFor c in
-    let g = month-given c y m leap (k, s) .only-if e in
+    let g = month-given c y m leap (k, b) .only-if e in
     let covered = covered-year-told r y (g .1 .0) in
     let covers = month-covering (numbered c) y covered (monthNamed r y m leap) (name-found (numbered c) y covered m leap (g .1 .1 .0) .of-year) in
-    subst (λ (a : Calendar × Span). CoveredSpan (rulesOf (a .0)) (a .1)) (one-given (numbered c, spanned r (monthNamed r y m leap)) (k, s) (g .1 .1 .1))
+    subst (λ (a : Calendar × Begun). CoveredMonth (rulesOf (a .0)) (a .1)) (one-given (numbered c, begun r (monthNamed r y m leap)) (k, b) (g .1 .1 .1))
     (record { own = refl; covering = covers })

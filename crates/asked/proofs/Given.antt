@@ -5,8 +5,8 @@ use Prim.Native.Nat.{ℕ}
 use Rattle.numbers.specs.Answer.{given}
 use Rattle.numbers.proofs.Answers.{Exactly, after, gives}
 use Rattle.months.specs.declared.Calendar.{Calendar}
-use Rattle.months.specs.declared.Span.{Span}
-use Rattle.months.specs.Months.{spanned}
+use Rattle.months.specs.declared.Begun.{Begun}
+use Rattle.months.specs.Months.{begun}
 use Rattle.asked.specs.Asked.{isCalendar, numbered, rulesFor, isCovered, hasMonth, monthNamed, yearAsked, monthAsked}
 
 -- ---- a year that is asked for
@@ -17,6 +17,6 @@ asked-given c y a = after (gives 1 _ _ a) (gives 2 _ _ a)
 
 -- ---- a month that is asked for
 
-pub month-given : (c y m : ℕ) (leap : Bool) (a : Calendar × Span) → Exactly (monthAsked c y m leap ≡ given a) ((isCalendar c ≡ true) × ((isCovered (rulesFor c) y ≡ true) × ((hasMonth (rulesFor c) y m leap ≡ true) × (given (numbered c, spanned (rulesFor c) (monthNamed (rulesFor c) y m leap)) ≡ given a))))
+pub month-given : (c y m : ℕ) (leap : Bool) (a : Calendar × Begun) → Exactly (monthAsked c y m leap ≡ given a) ((isCalendar c ≡ true) × ((isCovered (rulesFor c) y ≡ true) × ((hasMonth (rulesFor c) y m leap ≡ true) × (given (numbered c, begun (rulesFor c) (monthNamed (rulesFor c) y m leap)) ≡ given a))))
 unfolding monthAsked
 month-given c y m leap a = after (gives 1 _ _ a) (after (gives 2 _ _ a) (gives 3 _ _ a))

@@ -5,7 +5,7 @@ use Rattle.numbers.specs.OneResult.{OneResult}
 use Rattle.numbers.proofs.Answers.{one-given}
 use Rattle.numbers.proofs.OneResult.{one}
 use Rattle.months.specs.declared.Calendar.{Calendar}
-use Rattle.months.specs.declared.Span.{Span}
+use Rattle.months.specs.declared.Begun.{Begun}
 use Rattle.asked.specs.declared.CalendarAsked.{CalendarAsked}
 use Rattle.asked.specs.declared.CalendarAsked.the-variants as calendar-asked
 use Rattle.asked.specs.declared.YearAsked.{YearAsked}
@@ -33,7 +33,7 @@ one-year (year-asked.Refused n) (year-asked.Covered b z) h = cc
 one-year (year-asked.Refused n) (year-asked.Refused m) h = cc
 
 pub one-month : (x y : MonthAsked) → monthMeans x ≡ monthMeans y → x ≡ y
-one-month (month-asked.Found a s) (month-asked.Found b t) h = ap (λ (p : Calendar × Span). month-asked.Found (p .0) (p .1)) (one-given (a, s) (b, t) h)
+one-month (month-asked.Found a s) (month-asked.Found b t) h = ap (λ (p : Calendar × Begun). month-asked.Found (p .0) (p .1)) (one-given (a, s) (b, t) h)
 one-month (month-asked.Found a s) (month-asked.Refused n) h = cc
 one-month (month-asked.Refused n) (month-asked.Found b t) h = cc
 one-month (month-asked.Refused n) (month-asked.Refused m) h = cc

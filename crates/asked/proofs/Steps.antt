@@ -7,9 +7,9 @@ use Rattle.numbers.specs.Answer.{Answer, given, refused, need, then}
 use Rattle.numbers.proofs.Answers.{fails, holds, then-need, then-needs}
 use Rattle.months.specs.declared.Calendar.{Calendar}
 use Rattle.months.specs.declared.Calendar.the-variants.{Senmyo, Genka}
-use Rattle.months.specs.declared.Span.{Span}
+use Rattle.months.specs.declared.Begun.{Begun}
 use Rattle.months.specs.Rules.{Rules, rulesOf}
-use Rattle.months.specs.Months.{spanned, isLeap}
+use Rattle.months.specs.Months.{begun, isLeap}
 use Rattle.asked.specs.Asked.{isCalendar, numbered, rulesFor, isCovered, regularMonth, monthNamed, hasMonth, calendarOf, yearAsked, monthAsked}
 
 -- ---- the calendar
@@ -51,8 +51,8 @@ in-time r y h g = rw (le-leb _ _ h, le-leb _ _ g)
 -- ---- the month
 
 module _ (c y m : ℕ) (leap : Bool) where
-  abbrev found : Calendar → ℕ → Answer (Calendar × Span)
-  found k x = need (hasMonth (rulesOf k) x m leap) 3 (given (k, spanned (rulesOf k) (monthNamed (rulesOf k) x m leap)))
+  abbrev found : Calendar → ℕ → Answer (Calendar × Begun)
+  found k x = need (hasMonth (rulesOf k) x m leap) 3 (given (k, begun (rulesOf k) (monthNamed (rulesOf k) x m leap)))
 
   pub month-asked : monthAsked c y m leap ≡ then (yearAsked c y) (λ a. found (a .0) (a .1))
   unfolding monthAsked yearAsked
@@ -71,11 +71,11 @@ module _ (c y m : ℕ) (leap : Bool) where
     pub month-13 : 1 ≤ m → 12 < m → refused 3 ≡ monthAsked c y m leap
     month-13 low h = sym (in-year ∙ fails 3 _ (hasMonth (rulesOf k) x m leap) (rw (le-leb 1 m low, lt-leb m 12 h)))
 
-    module _ (low : 1 ≤ m) (high : m ≤ 12) (s : Span) where
-      pub regular-found : leap ≡ false → s ≡ spanned (rulesOf k) (regularMonth (rulesOf k) x m) → given (k, s) ≡ monthAsked c y m leap
+    module _ (low : 1 ≤ m) (high : m ≤ 12) (s : Begun) where
+      pub regular-found : leap ≡ false → s ≡ begun (rulesOf k) (regularMonth (rulesOf k) x m) → given (k, s) ≡ monthAsked c y m leap
       regular-found l h = sym (in-year ∙ holds 3 _ (hasMonth (rulesOf k) x m leap) (rw (le-leb 1 m low, le-leb m 12 high, l)) ∙ rw (h, l))
 
-      pub leap-found : leap ≡ true → isLeap (rulesOf k) (regularMonth (rulesOf k) x m + 1) ≡ true → s ≡ spanned (rulesOf k) (regularMonth (rulesOf k) x m + 1) → given (k, s) ≡ monthAsked c y m leap
+      pub leap-found : leap ≡ true → isLeap (rulesOf k) (regularMonth (rulesOf k) x m + 1) ≡ true → s ≡ begun (rulesOf k) (regularMonth (rulesOf k) x m + 1) → given (k, s) ≡ monthAsked c y m leap
       leap-found l is h = sym (in-year ∙ holds 3 _ (hasMonth (rulesOf k) x m leap) (rw (le-leb 1 m low, le-leb m 12 high, l) is) ∙ rw (h, l))
 
     pub leap-lacking : 1 ≤ m → m ≤ 12 → leap ≡ true → isLeap (rulesOf k) (regularMonth (rulesOf k) x m + 1) ≡ false → refused 3 ≡ monthAsked c y m leap

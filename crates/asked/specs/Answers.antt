@@ -2,7 +2,7 @@
 use Prim.Native.Nat.{ℕ}
 use Rattle.numbers.specs.Answer.{Answer, given, refused}
 use Rattle.months.specs.declared.Calendar.{Calendar}
-use Rattle.months.specs.declared.Span.{Span}
+use Rattle.months.specs.declared.Begun.{Begun}
 use Rattle.asked.specs.declared.CalendarAsked.{CalendarAsked}
 use Rattle.asked.specs.declared.CalendarAsked.the-variants as calendar-asked
 use Rattle.asked.specs.declared.YearAsked.{YearAsked}
@@ -18,6 +18,6 @@ abbrev pub yearMeans : YearAsked → Answer (Calendar × ℕ)
 yearMeans (year-asked.Covered c y) = given (c, y)
 yearMeans (year-asked.Refused n) = refused n
 
-abbrev pub monthMeans : MonthAsked → Answer (Calendar × Span)
+abbrev pub monthMeans : MonthAsked → Answer (Calendar × Begun)
 monthMeans (month-asked.Found c s) = given (c, s)
 monthMeans (month-asked.Refused n) = refused n

@@ -5,9 +5,9 @@ use lib.Dec.{eqb, leb}
 use Rattle.numbers.specs.Answer.{Answer, given, need}
 use Rattle.months.specs.declared.Calendar.{Calendar}
 use Rattle.months.specs.declared.Calendar.the-variants.{Senmyo, Genka}
-use Rattle.months.specs.declared.Span.{Span}
+use Rattle.months.specs.declared.Begun.{Begun}
 use Rattle.months.specs.Rules.{Rules, rulesOf}
-use Rattle.months.specs.Months.{monthWith, spanned, isLeap}
+use Rattle.months.specs.Months.{monthWith, begun, isLeap}
 
 -- two calendars by number: 1 Senmyo, 2 Genka
 abbrev pub isCalendar : ℕ → Bool
@@ -45,7 +45,7 @@ unfoldable pub yearAsked : ℕ → ℕ → Answer (Calendar × ℕ)
 yearAsked c y = need (isCalendar c) 1 (need (isCovered (rulesFor c) y) 2 (given (numbered c, y)))
 
 -- .. and the month, with its days
-unfoldable pub monthAsked : ℕ → ℕ → ℕ → Bool → Answer (Calendar × Span)
+unfoldable pub monthAsked : ℕ → ℕ → ℕ → Bool → Answer (Calendar × Begun)
 monthAsked c y m leap =
     let r : Rules = rulesFor c in
-    need (isCalendar c) 1 (need (isCovered r y) 2 (need (hasMonth r y m leap) 3 (given (numbered c, spanned r (monthNamed r y m leap)))))
+    need (isCalendar c) 1 (need (isCovered r y) 2 (need (hasMonth r y m leap) 3 (given (numbered c, begun r (monthNamed r y m leap)))))

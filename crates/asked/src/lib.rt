@@ -2,8 +2,8 @@ ghost use mathlib.Core.Path.{_≡_};
 ghost use Rattle.numbers.specs.Answer.{refusalIn};
 ghost use Rattle.asked.specs.Asked.{calendarOf, yearAsked, monthAsked};
 ghost use Rattle.asked.specs.Answers.{calendarMeans, yearMeans, monthMeans};
+use months::Begun;
 use months::Calendar;
-use months::Span;
 
 // The calendar that a number names, or the refusal.
 pub enum CalendarAsked {
@@ -19,7 +19,7 @@ pub enum YearAsked {
 
 // The month that a date names, or the refusal.
 pub enum MonthAsked {
-    Found(Calendar, Span),
+    Found(Calendar, Begun),
     Refused(u8),
 }
 
@@ -84,11 +84,12 @@ pub fn asked_month(calendar: u64, year: u64, number: u64, leap: bool) -> MonthAs
     if 12 < number {
         return MonthAsked::Refused(3);
     }
-    let regular = months::month_with(known, covered, (number - 1) as u8);
+    let day = months::term_day(known, covered, (number - 1) as u8);
+    let regular = months::month_of(known, day);
     if leap {
-        let after = months::month_after(known, regular);
-        let name = months::name_of(known, after);
-        if name.leap {
+        let after = months::begin(known, regular.month + 1);
+        let last = months::last_term_of(known, after);
+        if last.leap {
             return MonthAsked::Found(known, after);
         }
         return MonthAsked::Refused(3);

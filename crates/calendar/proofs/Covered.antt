@@ -8,10 +8,10 @@ use borrow.Author.Tests.{le-leb, lt-ltb, leb-true, ltb-true}
 use Rattle.numbers.proofs.Spans.{Together, together}
 use Rattle.months.specs.declared.Calendar.{Calendar}
 use Rattle.months.specs.Rules.{Rules, rulesOf}
-use Rattle.months.specs.Months.{monthOf, spanned, firstMonth, monthCount, firstDay, nextFirstDay}
+use Rattle.months.specs.Months.{monthOf, begun, firstMonth, monthCount, firstDay, nextFirstDay}
 use Rattle.months.specs.Year.{TwelveOrThirteen, twelve, thirteen, Year}
 use Rattle.months.proofs.CoveredYears.{covered-year, edges, covering, covering-day}
-use Rattle.asked.specs.Room.{CoveredYear, CoveredSpan}
+use Rattle.asked.specs.Room.{CoveredYear, CoveredMonth}
 use Rattle.calendar.specs.Dates.{coveredDays, isCoveredDay}
 use Rattle.calendar.specs.Room.{CoveredDay}
 
@@ -54,6 +54,6 @@ year-room c y covered = by-count (year .months)
     by-count (twelve t) = room 12 (omega arith) (omega arith) (t .count)
     by-count (thirteen t) = room 13 (omega arith) (omega arith) (t .count)
 
--- the month that has a covered day is covered ..
-pub day-span : (c : Calendar) (d : ℕ) → CoveredDay (rulesOf c) d → CoveredSpan (rulesOf c) (spanned (rulesOf c) (monthOf (rulesOf c) d))
-day-span c d h = record { own = refl; covering = covering-day c d (h .from) (h .to) }
+-- the month that has a covered day is covered
+pub day-month : (c : Calendar) (d : ℕ) → CoveredDay (rulesOf c) d → CoveredMonth (rulesOf c) (begun (rulesOf c) (monthOf (rulesOf c) d))
+day-month c d h = record { own = refl; covering = covering-day c d (h .from) (h .to) }

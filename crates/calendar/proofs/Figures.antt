@@ -8,7 +8,6 @@ use lib.Dec.{ltb}
 use Rattle.numbers.specs.Answer.{given, refused}
 use Rattle.numbers.specs.Spans.{Holds}
 use Rattle.numbers.specs.Places.{places}
-use Rattle.months.specs.declared.Name.{Name}
 use Rattle.months.specs.Rules.{Rules, senmyo, genka, rulesOf, dayNumber}
 use Rattle.months.specs.Months.{termNumber, isLeap}
 use Rattle.months.proofs.Steady.{Steady}
@@ -34,7 +33,9 @@ worked r term k =
 module _ (r : Rules) (s : Steady r) (term : ℕ → ℕ) (last : (d : ℕ) → Holds (r .mid) (term d) d) where
   listed-worked : (k : ℕ) → listed r k ≡ worked r term k
   unfolding worked
-  listed-worked k = ap (λ (n : Name). record { number = n .number; leap = n .leap; length = monthLength r k; «first_day» = dayNumber r (r .start k) }) (name-told r s k (term (r .start (k + 1) - 1)) (last _))
+  listed-worked k =
+      let (number, leap) = name-told r s k (term (r .start (k + 1) - 1)) (last _) in
+      rw (number, leap)
 
   places-worked : (k count n : ℕ) → places noMonth (listed r) k count n ≡ places noMonth (worked r term) k count n
   unfolding places

@@ -1,33 +1,32 @@
 -- The calls' definitions, step by step as the code takes them.
 use mathlib.Core.Path.{_≡_, sym, ap, _∙_}
-use mathlib.Core.Bool.{Bool, _&&_}
+use mathlib.Core.Bool.{Bool, true, false}
 use Prim.Native.Nat.{ℕ, _+_, _-_, _<_, _≤_}
-use lib.Dec.{leb}
 use borrow.Author.Tests.{le-leb, lt-leb, lt-ltb, le-ltb}
 use Rattle.numbers.specs.Answer.{Answer, given, refused, need, then}
 use Rattle.numbers.proofs.Answers.{fails, holds, then-need, then-needs}
 use Rattle.months.specs.declared.Calendar.{Calendar}
-use Rattle.months.specs.declared.Span.{Span}
+use Rattle.months.specs.declared.Begun.{Begun}
 use Rattle.months.specs.Rules.{Rules, rulesOf, dayNumber}
-use Rattle.months.specs.Months.{spanned}
+use Rattle.months.specs.Months.{begun}
 use Rattle.asked.specs.Asked.{isCalendar, numbered, rulesFor, isCovered, monthNamed, hasMonth, calendarOf, yearAsked, monthAsked}
 use Rattle.calendar.specs.declared.Date.{Date}
 use Rattle.calendar.specs.declared.Year.{Year}
-use Rattle.calendar.specs.Dates.{dayOf, coveredDays, isCoveredDay, dateIn, dateOf}
+use Rattle.calendar.specs.Dates.{hasDay, dayOf, coveredDays, isCoveredDay, dateIn, dateOf}
 use Rattle.calendar.specs.Years.{yearIn, yearOf}
 
 -- ---- the day
 
 module _ (c y m : ℕ) (leap : Bool) (d : ℕ) where
-  abbrev within : Calendar → Span → Answer ℕ
-  within k s = need (leb 1 d && leb d (s .next - s .start)) 4 (given (dayNumber (rulesOf k) (s .start + d - 1)))
+  abbrev within : Calendar → Begun → Answer ℕ
+  within k b = need (hasDay (rulesOf k) (b .month) d) 4 (given (dayNumber (rulesOf k) (b .start + d - 1)))
 
   day-asked : dayOf c y m leap d ≡ then (monthAsked c y m leap) (λ a. within (a .0) (a .1))
   unfolding dayOf monthAsked
   day-asked =
       let r : Rules = rulesFor c in
-      let a : Answer (Calendar × Span) = given (numbered c, spanned r (monthNamed r y m leap)) in
-      let step : Calendar × Span → Answer ℕ = λ a. within (a .0) (a .1) in
+      let a : Answer (Calendar × Begun) = given (numbered c, begun r (monthNamed r y m leap)) in
+      let step : Calendar × Begun → Answer ℕ = λ a. within (a .0) (a .1) in
       sym
       (then-need (isCalendar c) 1 (need (isCovered r y) 2 (need (hasMonth r y m leap) 3 a)) step
       ∙ ap (need (isCalendar c) 1) (then-need (isCovered r y) 2 (need (hasMonth r y m leap) 3 a) step ∙ ap (need (isCovered r y) 2) (then-need (hasMonth r y m leap) 3 a step)))
@@ -35,18 +34,15 @@ module _ (c y m : ℕ) (leap : Bool) (d : ℕ) where
   pub day-refused : (n : ℕ) → monthAsked c y m leap ≡ refused n → dayOf c y m leap d ≡ refused n
   day-refused n e = day-asked ∙ ap (λ a. then a (λ a. within (a .0) (a .1))) e
 
-  module _ (k : Calendar) (s : Span) (e : monthAsked c y m leap ≡ given (k, s)) where
-    in-month : dayOf c y m leap d ≡ within k s
+  module _ (k : Calendar) (b : Begun) (e : monthAsked c y m leap ≡ given (k, b)) where
+    in-month : dayOf c y m leap d ≡ within k b
     in-month = day-asked ∙ ap (λ a. then a (λ a. within (a .0) (a .1))) e
 
-    pub day-0 : d < 1 → refused 4 ≡ dayOf c y m leap d
-    day-0 h = sym (in-month ∙ fails 4 _ (leb 1 d && leb d (s .next - s .start)) (rw (lt-leb 1 d h)))
+    pub day-lacking : hasDay (rulesOf k) (b .month) d ≡ false → refused 4 ≡ dayOf c y m leap d
+    day-lacking h = sym (in-month ∙ fails 4 _ (hasDay (rulesOf k) (b .month) d) h)
 
-    pub day-past : 1 ≤ d → s .next - s .start < d → refused 4 ≡ dayOf c y m leap d
-    day-past low h = sym (in-month ∙ fails 4 _ (leb 1 d && leb d (s .next - s .start)) (rw (le-leb 1 d low, lt-leb d (s .next - s .start) h)))
-
-    pub day-there : 1 ≤ d → d ≤ s .next - s .start → given (dayNumber (rulesOf k) (s .start + d - 1)) ≡ dayOf c y m leap d
-    day-there low high = sym (in-month ∙ holds 4 _ (leb 1 d && leb d (s .next - s .start)) (rw (le-leb 1 d low, le-leb d (s .next - s .start) high)))
+    pub day-there : hasDay (rulesOf k) (b .month) d ≡ true → given (dayNumber (rulesOf k) (b .start + d - 1)) ≡ dayOf c y m leap d
+    day-there h = sym (in-month ∙ holds 4 _ (hasDay (rulesOf k) (b .month) d) h)
 
 -- ---- the date
 

@@ -4,10 +4,11 @@ use mathlib.Core.Bool.{true, false}
 use Prim.Native.Nat.{ℕ, _+_, _<_, _≤_}
 use lib.ListN.{set}
 use Rattle.numbers.specs.Places.{places}
-use Rattle.months.specs.declared.Span.{Span}
+use Rattle.months.specs.declared.Begun.{Begun}
 use Rattle.months.specs.Rules.{Rules}
-use Rattle.months.specs.Months.{spanned, firstMonth, firstDay, nextFirstDay, isLeap, numberOf}
+use Rattle.months.specs.Months.{begun, firstMonth, firstDay, nextFirstDay}
 use Rattle.calendar.specs.declared.Listing.{Listing}
+use Rattle.calendar.specs.declared.Month.{Month}
 use Rattle.calendar.specs.Years.{listed, noMonth, leapNumber}
 
 -- ---- what is asked
@@ -17,21 +18,20 @@ pub record CoveredDay (r : Rules) (d : ℕ) : Type 0 where
   pub from : firstDay r (r .firstYear) ≤ d
   pub to : d < nextFirstDay r (r .lastYear)
 
--- so many months from a covered one on are covered, and at most thirteen
-pub record CoveredMonths (r : Rules) (s : Span) (count : ℕ) : Type 0 where
-  pub own : s ≡ spanned r (s .month)
-  pub from : firstMonth r (r .firstYear) ≤ s .month
-  pub to : s .month + count ≤ firstMonth r (r .lastYear + 1)
-  pub at-most-13 : count ≤ 13
+-- the months from one to the eve of another are covered, and at most thirteen
+pub record CoveredMonths (r : Rules) (first end : Begun) : Type 0 where
+  pub first-own : first ≡ begun r (first .month)
+  pub end-own : end ≡ begun r (end .month)
+  pub from : firstMonth r (r .firstYear) ≤ first .month
+  pub to : end .month ≤ firstMonth r (r .lastYear + 1)
+  pub some : first .month < end .month
+  pub at-most-13 : end .month ≤ first .month + 13
 
 -- ---- a year's months while they are listed: one more, and so many from month k on
 
-unfoldable pub listedAt : Rules → ℕ → ℕ → Listing → Listing
-listedAt r k place l =
-    record {
-      leap = elim (isLeap r k) [ true ↦ numberOf r k | false ↦ l .leap ];
-      months = set (l .months) place (listed r k);
-    }
+unfoldable pub listedAt : Month → ℕ → Listing → Listing
+listedAt m place l =
+    record { leap = elim (m .leap) [ true ↦ m .number | false ↦ l .leap ]; months = set (l .months) place m }
 
 abbrev pub listing : Rules → ℕ → ℕ → Listing
 listing r k count = record { leap = leapNumber (listed r) k count; months = places noMonth (listed r) k count 13 }

@@ -1,8 +1,8 @@
 ghost use mathlib.Core.Path.{_≡_};
-ghost use Prim.Native.Nat.{_<_};
+ghost use Prim.Native.Nat.{_+_, _-_, _<_};
 ghost use Rattle.months.specs.Rules.{rulesOf};
-ghost use Rattle.asked.specs.Room.{CoveredYear, CoveredSpan};
-ghost use Rattle.calendar.specs.Dates.{coveredDays, dayOf, dateIn, dateOf, cycle};
+ghost use Rattle.asked.specs.Room.{CoveredYear, CoveredMonth};
+ghost use Rattle.calendar.specs.Dates.{coveredDays, hasDay, dayOf, dateIn, dateOf, cycle};
 ghost use Rattle.calendar.specs.Years.{listed, noMonth, noYear, yearIn, yearOf};
 ghost use Rattle.calendar.specs.Answers.{dayMeans, dateMeans, yearAnswer};
 ghost use Rattle.calendar.specs.Room.{CoveredDay, CoveredMonths, listedAt, listing};
@@ -12,8 +12,8 @@ use asked::YearAsked;
 pub use eclipse::Grade;
 pub use eclipse::Share;
 pub use eclipse::Side;
+use months::Begun;
 use months::Calendar;
-use months::Span;
 pub use moons::EclipseAnswer;
 pub use moons::FullMoon;
 pub use moons::Instant;
@@ -76,21 +76,33 @@ struct Listing {
     months: [Month; 13],
 }
 
+// Whether a month has a day. It has 29 or 30: only of day 30 must one know when the next month starts.
+fn has_day(calendar: Calendar, month: Begun, day: u64) -> bool
+    requires { ⌜ CoveredMonth (rulesOf calendar) month ⌝ }
+    ensures { λ r. ⌜ r ≡ hasDay (rulesOf calendar) (month .month) day ⌝ }
+{
+    if day < 1 {
+        return false;
+    }
+    if day < 30 {
+        return true;
+    }
+    let next = months::begin(calendar, month.month + 1);
+    day <= next.start - month.start
+}
+
 // The day of a date.
 pub fn day_of(calendar: u64, year: u64, month: u64, leap: bool, day: u64) -> DayAnswer
     ensures { λ r. ⌜ dayMeans r ≡ dayOf calendar year month leap day ⌝ }
 {
     let asked = asked::asked_month(calendar, year, month, leap);
-    let MonthAsked::Found(known, span) = asked else {
+    let MonthAsked::Found(known, found) = asked else {
         return DayAnswer::Refused(asked::month_refusal(asked));
     };
-    if day < 1 {
-        return DayAnswer::Refused(4);
+    if has_day(known, found, day) {
+        return DayAnswer::Day((found.start + day - 1 - months::day_zero(known)) as u32);
     }
-    if span.next - span.start < day {
-        return DayAnswer::Refused(4);
-    }
-    DayAnswer::Day((span.start + day - 1 - months::day_zero(known)) as u32)
+    DayAnswer::Refused(4)
 }
 
 fn covered_days(calendar: Calendar) -> Days
@@ -113,13 +125,13 @@ fn date_in(calendar: Calendar, day: u32) -> Date
     requires { ⌜ CoveredDay (rulesOf calendar) day ⌝ }
     ensures { λ r. ⌜ r ≡ dateIn (rulesOf calendar) day ⌝ }
 {
-    let span = months::month_of(calendar, day);
-    let name = months::name_of(calendar, span);
+    let found = months::month_of(calendar, day);
+    let last = months::last_term_of(calendar, found);
     Date {
-        year: months::year_with(calendar, span),
-        month: name.number,
-        leap: name.leap,
-        day: (day as u64 - span.start + 1) as u8,
+        year: months::term_year(calendar, last.term),
+        month: months::term_number(calendar, last.term),
+        leap: last.leap,
+        day: (day as u64 - found.start + 1) as u8,
     }
 }
 
@@ -170,25 +182,25 @@ fn no_year() -> Year
     }
 }
 
-fn listed_month(calendar: Calendar, span: Span) -> Month
-    requires { ⌜ CoveredSpan (rulesOf calendar) span ⌝ }
-    ensures { λ r. ⌜ r ≡ listed (rulesOf calendar) (span .month) ⌝ }
+fn listed_month(calendar: Calendar, month: Begun, next: u64) -> Month
+    requires { ⌜ CoveredMonth (rulesOf calendar) month ⌝ }
+    requires { ⌜ next ≡ rulesOf calendar .start (month .month + 1) ⌝ }
+    ensures { λ r. ⌜ r ≡ listed (rulesOf calendar) (month .month) ⌝ }
 {
-    let name = months::name_of(calendar, span);
+    let last = months::last_term_by(calendar, month, next);
     Month {
-        number: name.number,
-        leap: name.leap,
-        length: (span.next - span.start) as u8,
-        first_day: (span.start - months::day_zero(calendar)) as u32,
+        number: months::term_number(calendar, last.term),
+        leap: last.leap,
+        length: (next - month.start) as u8,
+        first_day: (month.start - months::day_zero(calendar)) as u32,
     }
 }
 
 // One more month, at its place.
-fn list(calendar: Calendar, span: Span, place: usize, listing: Listing) -> Listing
-    requires { ⌜ CoveredSpan (rulesOf calendar) span × (place < 13) ⌝ }
-    ensures { λ r. ⌜ r ≡ listedAt (rulesOf calendar) (span .month) place listing ⌝ }
+fn list(month: Month, place: usize, listing: Listing) -> Listing
+    requires { ⌜ place < 13 ⌝ }
+    ensures { λ r. ⌜ r ≡ listedAt month place listing ⌝ }
 {
-    let month = listed_month(calendar, span);
     let mut months = listing.months;
     months[place] = month;
     if month.leap {
@@ -203,33 +215,34 @@ fn list(calendar: Calendar, span: Span, place: usize, listing: Listing) -> Listi
     }
 }
 
-// So many months from a month on.
-fn list_from(calendar: Calendar, first: Span, count: usize) -> Listing
-    requires { ⌜ CoveredMonths (rulesOf calendar) first count ⌝ }
-    ensures { λ r. ⌜ r ≡ listing (rulesOf calendar) (first .month) count ⌝ }
+// The months from a month to the eve of another.
+fn list_to(calendar: Calendar, first: Begun, end: Begun) -> Listing
+    requires { ⌜ CoveredMonths (rulesOf calendar) first end ⌝ }
+    ensures { λ r. ⌜ r ≡ listing (rulesOf calendar) (first .month) (end .month - first .month) ⌝ }
 {
     let mut listing = Listing {
         leap: 0,
         months: [no_month(); 13],
     };
-    let mut span = first;
+    let mut month = first;
     let mut place: usize = 0;
-    while place < count {
-        listing = list(calendar, span, place, listing);
-        span = months::month_after(calendar, span);
+    while month.month + 1 < end.month {
+        let next = months::begin(calendar, month.month + 1);
+        listing = list(listed_month(calendar, month, next.start), place, listing);
+        month = next;
         place += 1;
     }
-    listing
+    list(listed_month(calendar, month, end.start), place, listing)
 }
 
 fn year_in(calendar: Calendar, year: u16) -> Year
     requires { ⌜ CoveredYear (rulesOf calendar) year ⌝ }
     ensures { λ r. ⌜ r ≡ yearIn (rulesOf calendar) year ⌝ }
 {
-    let first = months::month_with(calendar, year, 0);
-    let next = months::month_with(calendar, year, 12);
+    let first = months::month_of(calendar, months::term_day(calendar, year, 0));
+    let next = months::month_of(calendar, months::term_day(calendar, year, 12));
     let count = next.month - first.month;
-    let listing = list_from(calendar, first, count as usize);
+    let listing = list_to(calendar, first, next);
     let months = listing.months;
     Year {
         days: (next.start - first.start) as u16,

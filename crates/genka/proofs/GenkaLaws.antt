@@ -5,7 +5,6 @@ use native.Mathlib.Omega.{arith}
 use Rattle.numbers.specs.Spans.{Takes}
 use Rattle.numbers.proofs.Spans.{Growing, growing}
 use Rattle.genka.specs.Genka.{dayHalfParts, newMoon, newMoonDay, fullMoon, midTermDay, yearsSinceOrigin, rainWater}
-use Rattle.genka.specs.Room.{meanMonth}
 
 -- the Rain Water of a year is at 222,070 k/608 days
 rain-water-day : (y : ℕ) → midTermDay (rainWater y) ≡ 222070 * yearsSinceOrigin y / 608
@@ -29,13 +28,6 @@ months-of-14-years k = omega arith
 
 pub terms-of-14-years : (j : ℕ) → midTermDay (j + 168) ≤ midTermDay j + 5114
 terms-of-14-years j = omega arith
-
--- the new moon before a day's start opens the month of that day, or the month before
-pub opened-by-start : (d : ℕ) → newMoonDay (meanMonth d) ≤ d
-opened-by-start d = omega arith
-
-pub second-opens-after : (d : ℕ) → d < newMoonDay (meanMonth d + 2)
-second-opens-after d = omega arith
 
 -- a full moon is midway between two new moons
 pub midway : (k : ℕ) → fullMoon k .0 ≡ newMoon k .0 + newMoon (k + 1) .0

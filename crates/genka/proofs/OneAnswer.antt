@@ -2,13 +2,13 @@
 use Rattle.numbers.specs.OneResult.{OneResult}
 use Rattle.numbers.proofs.Spans.{one-span}
 use Rattle.numbers.proofs.OneResult.{one}
-use Rattle.genka.specs.Genka.{midTermDay}
-use Rattle.genka.proofs.GenkaLaws.{terms-grow}
+use Rattle.genka.specs.Genka.{newMoonDay, midTermDay}
+use Rattle.genka.proofs.GenkaLaws.{new-moons-grow, terms-grow}
 use Rattle.genka.proofs.new_moon.Reads as new-moon
 use Rattle.genka.proofs.new_moon_day.Reads as new-moon-day
 use Rattle.genka.proofs.part_to_half_parts.Reads as part-to-half-parts
 use Rattle.genka.proofs.full_moon.Reads as full-moon
-use Rattle.genka.proofs.mean_month.Reads as mean-month
+use Rattle.genka.proofs.month_by.Reads as month-by
 use Rattle.genka.proofs.mid_term_day.Reads as mid-term-day
 use Rattle.genka.proofs.mid_term_by.Reads as mid-term-by
 use Rattle.genka.proofs.rain_water.Reads as rain-water
@@ -25,8 +25,8 @@ one-part-to-half-parts _ _ _ _ _ _ = one
 pub one-full-moon : OneResult full-moon.Learnt
 one-full-moon _ _ _ _ _ _ = one
 
-pub one-mean-month : OneResult mean-month.Learnt
-one-mean-month _ _ _ _ _ _ = one
+pub one-month-by : OneResult month-by.Learnt
+one-month-by _ a x y _ _ = one-span newMoonDay new-moons-grow x y (a .0)
 
 pub one-mid-term-day : OneResult mid-term-day.Learnt
 one-mid-term-day _ _ _ _ _ _ = one

@@ -1,2 +1,1 @@
 pub mod Genka
-pub mod Room

@@ -2,7 +2,6 @@ ghost use mathlib.Core.Path.{_≡_};
 ghost use Prim.Native.Nat.{_*_, _<_, _^_};
 ghost use Rattle.numbers.specs.Spans.{Holds};
 ghost use Rattle.genka.specs.Genka.{partToHalfParts, newMoon, newMoonDay, fullMoon, midTermDay, rainWater};
-ghost use Rattle.genka.specs.Room.{meanMonth};
 
 // 1/752 of a day.
 pub struct Part(pub u64);
@@ -50,11 +49,11 @@ pub fn full_moon(number: u32) -> HalfPart
     HalfPart(part_to_half_parts(new_moon(number)).0 + MONTH)
 }
 
-// The last new moon by the start of a day.
-pub fn mean_month(day: u32) -> u32
-    ensures { λ r. ⌜ r ≡ meanMonth day ⌝ }
+// The last new moon by the end of a day.
+pub fn month_by(day: u32) -> u32
+    ensures { λ r. ⌜ Holds newMoonDay r day ⌝ }
 {
-    (PARTS_IN_DAY * (day as u64) / MONTH) as u32
+    ((PARTS_IN_DAY * (day as u64 + 1) - 1) / MONTH) as u32
 }
 
 // The day of mid-term `number`, of which the first stands at the origin too.

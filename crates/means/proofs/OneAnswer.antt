@@ -9,7 +9,6 @@ use Rattle.means.proofs.mid_term_day.Reads as mid-term-day
 use Rattle.means.proofs.mid_term_by.Reads as mid-term-by
 use Rattle.means.proofs.rain_water.Reads as rain-water
 use Rattle.means.proofs.mean_new_moon.Reads as mean-new-moon
-use Rattle.means.proofs.mean_month.Reads as mean-month
 use Rattle.means.proofs.mean_full_moon.Reads as mean-full-moon
 
 pub one-mid-term : OneResult mid-term.Learnt
@@ -26,9 +25,6 @@ one-rain-water _ _ _ _ _ _ = one
 
 pub one-mean-new-moon : OneResult mean-new-moon.Learnt
 one-mean-new-moon _ _ _ _ _ _ = one
-
-pub one-mean-month : OneResult mean-month.Learnt
-one-mean-month _ _ _ _ _ _ = one
 
 pub one-mean-full-moon : OneResult mean-full-moon.Learnt
 one-mean-full-moon _ _ _ _ _ _ = one

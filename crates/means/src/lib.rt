@@ -1,18 +1,16 @@
 ghost use mathlib.Core.Path.{_≡_};
 ghost use Rattle.numbers.specs.Spans.{Holds};
 ghost use Rattle.means.specs.Means.{midTerm, midTermDay, rainWater, meanNewMoon, meanFullMoon};
-ghost use Rattle.means.specs.Room.{meanMonth};
 use units::BYO_IN_DAY;
 use units::BYO_IN_FEN;
 use units::Byo;
-use units::FEN_IN_DAY;
 use units::Fen;
 
 // From a mid-term to the next, in byo: two terms of 127,835 fen 5 byo.
 const MID_TERM: u64 = 2 * (127835 * BYO_IN_FEN + 5);
 
 // From a mean new moon to the next, in fen.
-const MONTH: u64 = 248057;
+pub const MONTH: u64 = 248057;
 
 // From a mean new moon to the mean full moon, in byo: 124,028 1/2 fen.
 const HALF_MONTH: u64 = 124028 * BYO_IN_FEN + 4;
@@ -50,13 +48,6 @@ pub fn mean_new_moon(number: u32) -> Fen
     ensures { λ r. ⌜ r ≡ meanNewMoon number ⌝ }
 {
     Fen(MONTH * (number as u64))
-}
-
-// The last mean new moon by the start of a day.
-pub fn mean_month(day: u32) -> u32
-    ensures { λ r. ⌜ r ≡ meanMonth day ⌝ }
-{
-    (FEN_IN_DAY * (day as u64) / MONTH) as u32
 }
 
 // The mean full moon after new moon `number`.

@@ -10,7 +10,6 @@ use Rattle.months.specs.declared.Calendar.{Calendar}
 use Rattle.months.specs.declared.Calendar.the-variants.{Senmyo, Genka}
 use Rattle.months.specs.Rules.{Rules, senmyo, genka, rulesOf}
 use Rattle.months.specs.Months.{Has}
-use Rattle.months.specs.Room.{meanMonth}
 use Rattle.months.proofs.Steady.{Steady}
 
 pub senmyo-steady : Steady senmyo
@@ -69,19 +68,7 @@ sizes Genka =
       rain-water-size = λ y h. omega (arith, h);
     }
 
--- ---- the mean month of a day opens the month of that day, or the month before
-
-pub record Guess (c : Calendar) (d : ℕ) : Type 0 where
-  pub opened : rulesOf c .start (meanMonth c d) ≤ d
-  pub soon : d < rulesOf c .start (meanMonth c d + 2)
-  pub small : 29 * meanMonth c d ≤ d
-
-pub guess : (c : Calendar) (d : ℕ) → Guess c d
-unfolding rulesOf meanMonth
-guess Senmyo d = record { opened = senmyo-lengths.opened-by-start d; soon = senmyo-lengths.second-opens-after d; small = omega arith }
-guess Genka d = record { opened = genka-laws.opened-by-start d; soon = genka-laws.second-opens-after d; small = omega arith }
-
--- ---- what `month_of`, `month_with` and `mid_term_by` find is one thing
+-- ---- no day has two months
 
 pub one-month-of-day : (c : Calendar) (d k l : ℕ) → Has (rulesOf c) k d → Has (rulesOf c) l d → k ≡ l
 one-month-of-day c d k l h g = one-span (rulesOf c .start) (steady c .months-grow) k l d h g

@@ -7,12 +7,12 @@ use Rattle.genka.proofs.GenkaLaws as genka-laws
 use Rattle.months.specs.declared.Calendar.{Calendar}
 use Rattle.months.specs.declared.Calendar.the-variants.{Senmyo, Genka}
 use Rattle.months.specs.Rules.{Rules, senmyo, genka, rulesOf}
-use Rattle.months.specs.Months.{monthOf, firstMonth, firstDay, nextFirstDay, yearWith}
+use Rattle.months.specs.Months.{monthOf, firstMonth, firstDay, nextFirstDay, yearWith, lastTerm}
 use Rattle.months.specs.Year.{MonthDays, OfYear, Year}
-use Rattle.months.specs.Room.{Covering}
-use Rattle.months.proofs.FirstMonths.{years-in-order, year-holds, year-from, year-to}
+use Rattle.months.specs.Room.{CoveredTerm, Covering}
+use Rattle.months.proofs.FirstMonths.{years-in-order, year-holds, year-from, year-to, rain-water-fallen, year-told}
 use Rattle.months.proofs.Years.{year-of}
-use Rattle.months.proofs.Calendars.{senmyo-steady, genka-steady, steady}
+use Rattle.months.proofs.Calendars.{senmyo-steady, genka-steady, steady, sizes}
 use Rattle.months.proofs.Figures.{first-1685, first-698, senmyo-opens, senmyo-ends, genka-opens, genka-ends}
 
 -- the tested months are all that the covered years need
@@ -55,6 +55,13 @@ unfolding rulesOf
 edges Senmyo = record { first-day = omega (arith, senmyo-opens); last-day = omega (arith, senmyo-ends); last-month = omega (arith, first-1685); day-zero = omega arith }
 edges Genka = record { first-day = omega (arith, genka-opens); last-day = omega (arith, genka-ends); last-month = omega (arith, first-698); day-zero = omega arith }
 
+-- ---- a month of the covered years, or the one after them
+
+pub days-to-next : (c : Calendar) (k : ℕ) → firstMonth (rulesOf c) (rulesOf c .firstYear) ≤ k → k ≤ firstMonth (rulesOf c) (rulesOf c .lastYear + 1) → MonthDays (rulesOf c) k
+unfolding rulesOf
+days-to-next Senmyo k low high = senmyo-lengths.month-takes k (omega (arith, low, tested-from 822 (omega arith))) (omega (arith, high, tested-to 1685 (omega arith)))
+days-to-next Genka k low high = genka-laws.month-takes k
+
 -- ---- a month of the covered years
 
 module _ (c : Calendar) (k : ℕ) (h : Covering (rulesOf c) k) where
@@ -71,6 +78,15 @@ module _ (c : Calendar) (k : ℕ) (h : Covering (rulesOf c) k) where
 
   pub ends-covered : rulesOf c .start (k + 1) ≤ nextFirstDay (rulesOf c) (rulesOf c .lastYear)
   ends-covered = omega (arith, later (rulesOf c .start) (steady c .months-grow) (k + 1) (firstMonth (rulesOf c) (rulesOf c .lastYear + 1)) (omega (arith, h .to)))
+
+  -- and so is the last mid-term by its end
+  pub its-term : CoveredTerm (rulesOf c) (lastTerm (rulesOf c) k)
+  its-term =
+      let r = rulesOf c in
+      record {
+        from = rain-water-fallen r (steady c) k h;
+        year-small = omega (arith, year-told r (steady c) k h, year-to r (steady c) k h, sizes c .year-size);
+      }
 
 -- the covered years' months lie between the first year's and the last's
 pub after-first : (c : Calendar) (y : ℕ) → rulesOf c .firstYear ≤ y → firstMonth (rulesOf c) (rulesOf c .firstYear) ≤ firstMonth (rulesOf c) y

@@ -10,7 +10,7 @@ use Rattle.means.specs.Means.{accumulatedYears, solstice, midTerm, meanNewMoon}
 use Rattle.senmyo.specs.Phases.{newMoon}
 use Rattle.senmyo.proofs.Worked.{dayAt}
 use Rattle.months.specs.Rules.{Rules, senmyo, genka, dayNumber}
-use Rattle.months.specs.Months.{Has, HasTerm, monthOf, monthWith, firstMonth, firstDay, nextFirstDay, nameOf}
+use Rattle.months.specs.Months.{Has, HasTerm, monthOf, monthWith, firstMonth, firstDay, nextFirstDay, numberOf, isLeap}
 use Rattle.months.proofs.Steady.{Steady}
 use Rattle.months.proofs.Terms.{name-told}
 use Rattle.months.proofs.FirstMonths.{opened-by}
@@ -107,7 +107,7 @@ unfolding dayAt
 not-by-moment-833 = refl
 
 -- 445 is leap after 5; by the count of 235 months to the 228 mid-terms of 19 years, that month would have mid-term 6
-leap-445 : nameOf genka (firstMonth genka 445 + 5) ≡ record { number = 5; leap = true }
+leap-445 : (numberOf genka (firstMonth genka 445 + 5) ≡ 5) × (isLeap genka (firstMonth genka 445 + 5) ≡ true)
 leap-445 = rw first-445 (name-told genka genka-steady (70561 + 5) (genka .rainWater 445 + 4) (record { from = leb→le _ _ tt; to = ltb→lt _ _ tt }))
 
 not-by-count-445 : 235 * (genka .rainWater 445 + 5) / 228 ≡ firstMonth genka 445 + 5

@@ -3,11 +3,13 @@ use Rattle.numbers.specs.OneResult.{OneResult}
 use Rattle.numbers.proofs.OneResult.{one}
 use Rattle.months.proofs.covered_years.Reads as covered-years
 use Rattle.months.proofs.day_zero.Reads as day-zero
+use Rattle.months.proofs.term_number.Reads as term-number
+use Rattle.months.proofs.term_day.Reads as term-day
+use Rattle.months.proofs.begin.Reads as begin
 use Rattle.months.proofs.month_of.Reads as month-of
-use Rattle.months.proofs.month_with.Reads as month-with
-use Rattle.months.proofs.month_after.Reads as month-after
-use Rattle.months.proofs.name_of.Reads as name-of
-use Rattle.months.proofs.year_with.Reads as year-with
+use Rattle.months.proofs.last_term_by.Reads as last-term-by
+use Rattle.months.proofs.last_term_of.Reads as last-term-of
+use Rattle.months.proofs.term_year.Reads as term-year
 use Rattle.months.proofs.new_moon.Reads as new-moon
 use Rattle.months.proofs.full_moon.Reads as full-moon
 
@@ -17,20 +19,26 @@ one-covered-years _ _ _ _ _ _ = one
 pub one-day-zero : OneResult day-zero.Learnt
 one-day-zero _ _ _ _ _ _ = one
 
+pub one-term-number : OneResult term-number.Learnt
+one-term-number _ _ _ _ _ _ = one
+
+pub one-term-day : OneResult term-day.Learnt
+one-term-day _ _ _ _ _ _ = one
+
+pub one-begin : OneResult begin.Learnt
+one-begin _ _ _ _ _ _ = one
+
 pub one-month-of : OneResult month-of.Learnt
 one-month-of _ _ _ _ _ _ = one
 
-pub one-month-with : OneResult month-with.Learnt
-one-month-with _ _ _ _ _ _ = one
+pub one-last-term-by : OneResult last-term-by.Learnt
+one-last-term-by _ _ _ _ _ _ = one
 
-pub one-month-after : OneResult month-after.Learnt
-one-month-after _ _ _ _ _ _ = one
+pub one-last-term-of : OneResult last-term-of.Learnt
+one-last-term-of _ _ _ _ _ _ = one
 
-pub one-name-of : OneResult name-of.Learnt
-one-name-of _ _ _ _ _ _ = one
-
-pub one-year-with : OneResult year-with.Learnt
-one-year-with _ _ _ _ _ _ = one
+pub one-term-year : OneResult term-year.Learnt
+one-term-year _ _ _ _ _ _ = one
 
 pub one-new-moon : OneResult new-moon.Learnt
 one-new-moon _ _ _ _ _ _ = one

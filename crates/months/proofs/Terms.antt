@@ -3,12 +3,14 @@ use mathlib.Core.Path.{_≡_, refl, ap, _∙_}
 use mathlib.Core.Bool.{Bool, true, false}
 use Prim.Native.Nat.{ℕ, zero, suc, _+_, _-_, _<_, _≤_}
 use native.Mathlib.Omega.{arith}
-use borrow.Author.Tests.{ltb-true, ltb-false, le-ltb}
+use borrow.Author.Tests.{ltb-true, ltb-false, lt-ltb, le-ltb}
 use lib.Dec.{ltb}
 use Rattle.numbers.specs.Spans.{Holds}
 use Rattle.numbers.proofs.Spans.{later, not-after, span-holds, span-is}
 use Rattle.months.specs.Rules.{Rules}
-use Rattle.months.specs.Months.{HasTerm, termNumber, lastTerm, isLeap, numberOf, nameOf}
+use Rattle.months.specs.Months.{HasTerm, termNumber, lastTerm, isLeap, numberOf}
+use Rattle.months.specs.Year.{MonthDays}
+use Rattle.months.specs.Room.{lastTermOf}
 use Rattle.months.proofs.Steady.{Steady}
 
 module _ (r : Rules) (s : Steady r) (k : ℕ) where
@@ -86,7 +88,46 @@ number-of-last r s k = by-leap (isLeap r k) refl
     by-leap true e = number-of-leap r k e ∙ ap (termNumber r) (last-before r s k e)
     by-leap false e = rw (e, numberOf)
 
--- and its name is told by that mid-term
-pub name-told : (r : Rules) → Steady r → (k j : ℕ) → Holds (r .mid) j (r .start (k + 1) - 1) → nameOf r k ≡ record { number = termNumber r j; leap = ltb (r .mid j) (r .start k) }
+-- that mid-term told, and whether the month is leap
+pub last-told : (r : Rules) → Steady r → (k j : ℕ) (leap : Bool) → Holds (r .mid) j (r .start (k + 1) - 1) → ltb (r .mid j) (r .start k) ≡ leap → record { term = j; leap = leap } ≡ lastTermOf r k
 unfolding isLeap
-name-told r s k j h = let e = last-term-told r s k j h in rw (number-of-last r s k, e)
+last-told r s k j leap h l = let e = last-term-told r s k j h in rw (e, l)
+
+-- ---- the same found from the last mid-term by day 30, be the month of 29 days or of 30
+
+module _ (r : Rules) (s : Steady r) (k j : ℕ) (days : MonthDays r k) (by-30 : Holds (r .mid) j (r .start k + 29)) where
+  -- it falls before that day
+  pub before-day-30 : r .mid j < r .start k + 29 → Holds (r .mid) j (r .start (k + 1) - 1)
+  before-day-30 h = record { from = omega (arith, h, days .at-least); to = omega (arith, by-30 .to, days .at-most, days .at-least) }
+
+  -- it falls on that day, and the month has it
+  pub on-day-30 : r .mid j < r .start (k + 1) → Holds (r .mid) j (r .start (k + 1) - 1)
+  on-day-30 h = record { from = omega (arith, h); to = omega (arith, by-30 .to, days .at-most) }
+
+  -- the month ended before: then the last is the one before, and the month is leap
+  module _ (h : r .start (k + 1) ≤ r .mid j) where
+    pub not-term-0 : 1 ≤ j
+    not-term-0 = by-number j refl
+      where
+        by-number : (i : ℕ) → j ≡ i → 1 ≤ i
+        by-number zero e = absurd (omega (arith, rw e at h, days .at-least, s .terms-grow .zeroth))
+        by-number (suc i) e = omega arith
+
+    term-before : r .mid (j - 1) + 30 ≤ r .mid j
+    term-before =
+        let on : j - 1 + 1 ≡ j = omega (arith, not-term-0) in
+        rw on at (s .terms-apart (j - 1) .at-least)
+
+    pub past-end : Holds (r .mid) (j - 1) (r .start (k + 1) - 1)
+    past-end =
+        let on : j - 1 + 1 ≡ j = omega (arith, not-term-0) in
+        record { from = omega (arith, term-before, by-30 .from, days .at-least); to = rw on (omega (arith, h, days .at-least)) }
+
+    pub before-start : ltb (r .mid (j - 1)) (r .start k) ≡ true
+    before-start = lt-ltb (r .mid (j - 1)) (r .start k) (omega (arith, term-before, by-30 .from))
+
+-- ---- and a month's name by that mid-term
+
+pub name-told : (r : Rules) → Steady r → (k j : ℕ) → Holds (r .mid) j (r .start (k + 1) - 1) → (numberOf r k ≡ termNumber r j) × (isLeap r k ≡ ltb (r .mid j) (r .start k))
+unfolding isLeap
+name-told r s k j h = let e = last-term-told r s k j h in (rw (number-of-last r s k, e), rw e)

@@ -4,8 +4,7 @@ use Prim.Native.Nat.{ℕ, _+_, _-_, _%_}
 use lib.Dec.{ltb}
 use Rattle.numbers.specs.Spans.{Holds, lastBegun, spanOf}
 use Rattle.months.specs.declared.YearRange.{YearRange}
-use Rattle.months.specs.declared.Span.{Span}
-use Rattle.months.specs.declared.Name.{Name}
+use Rattle.months.specs.declared.Begun.{Begun}
 use Rattle.months.specs.Rules.{Rules}
 
 -- the first covered year and the last
@@ -28,9 +27,9 @@ monthOf r d = spanOf (r .start) d
 abbrev pub monthWith : Rules → ℕ → ℕ
 monthWith r j = monthOf r (r .mid j)
 
--- a month with its first day and the first day of the next
-abbrev pub spanned : Rules → ℕ → Span
-spanned r k = record { month = k; start = r .start k; next = r .start (k + 1) }
+-- a month with its first day
+abbrev pub begun : Rules → ℕ → Begun
+begun r k = record { month = k; start = r .start k }
 
 -- month 1 of year y has that year's Rain Water
 unfoldable pub firstMonth : Rules → ℕ → ℕ
@@ -66,6 +65,3 @@ isLeap r k = ltb (r .mid (lastTerm r k)) (r .start k)
 -- months with a mid-term take its number; a month without one takes the number before it
 unfoldable pub numberOf : Rules → ℕ → ℕ
 numberOf r k = elim (isLeap r k) [ true ↦ termNumber r (lastTerm r (k - 1)) | false ↦ termNumber r (lastTerm r k) ]
-
-abbrev pub nameOf : Rules → ℕ → Name
-nameOf r k = record { number = numberOf r k; leap = isLeap r k }

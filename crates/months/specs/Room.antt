@@ -1,23 +1,37 @@
--- How the search for a month begins, and what the functions that take a month ask of it. No rule of the calendar.
+-- What inner functions find, and what is asked of their callers, which have made sure of it. No rule of the calendar.
 use mathlib.Core.Path.{_≡_}
-use Prim.Native.Nat.{ℕ, _+_, _<_, _≤_, _^_}
-use Rattle.means.specs.Room as senmyo-room
-use Rattle.genka.specs.Room as genka-room
-use Rattle.months.specs.declared.Calendar.{Calendar}
-use Rattle.months.specs.declared.Calendar.the-variants.{Senmyo, Genka}
-use Rattle.months.specs.declared.Span.{Span}
+use Prim.Native.Nat.{ℕ, _+_, _-_, _/_, _<_, _≤_, _^_}
+use Rattle.months.specs.declared.Begun.{Begun}
+use Rattle.months.specs.declared.LastTerm.{LastTerm}
 use Rattle.months.specs.Rules.{Rules}
-use Rattle.months.specs.Months.{spanned, firstMonth}
+use Rattle.months.specs.Months.{begun, firstMonth, lastTerm, isLeap}
 
--- the last mean new moon by the start of a day
-unfoldable pub meanMonth : Calendar → ℕ → ℕ
-meanMonth Senmyo d = senmyo-room.meanMonth d
-meanMonth Genka d = genka-room.meanMonth d
+-- ---- what is found
 
--- the days are the month's own, and fit their words
-pub record Fitting (r : Rules) (s : Span) : Type 0 where
-  pub own : s ≡ spanned r (s .month)
-  pub small : s .month < 2 ^ 27
+-- the last mid-term by the end of month k, and whether that month is leap
+abbrev pub lastTermOf : Rules → ℕ → LastTerm
+lastTermOf r k = record { term = lastTerm r k; leap = isLeap r k }
+
+-- the year of a mid-term: twelve to a year, from the first covered year's Rain Water on
+abbrev pub termYear : Rules → ℕ → ℕ
+termYear r j = r .firstYear + (j - r .rainWater (r .firstYear)) / 12
+
+-- ---- what is asked
+
+-- the day is the month's own, and fits its word
+pub record Starting (r : Rules) (b : Begun) : Type 0 where
+  pub own : b ≡ begun r (b .month)
+  pub small : b .month < 2 ^ 27
+
+-- .. and the other is the first day of the next month
+pub record Ending (r : Rules) (b : Begun) (next : ℕ) : Type 0 where
+  pub starting : Starting r b
+  pub next-own : next ≡ r .start (b .month + 1)
+
+-- mid-term j is not before the covered years, and its year fits its word
+pub record CoveredTerm (r : Rules) (j : ℕ) : Type 0 where
+  pub from : r .rainWater (r .firstYear) ≤ j
+  pub year-small : termYear r j < 2 ^ 16
 
 -- month k is one of a covered year
 pub record Covering (r : Rules) (k : ℕ) : Type 0 where

@@ -1,9 +1,10 @@
 ghost use mathlib.Core.Path.{_≡_};
 ghost use Prim.Native.Nat.{_+_};
 ghost use Rattle.numbers.specs.Spans.{Holds};
-ghost use Rattle.months.specs.Rules.{rulesOf};
-ghost use Rattle.months.specs.Months.{coveredYears, spanned, monthOf, monthWith, termNumber, lastTerm, nameOf, yearWith};
-ghost use Rattle.months.specs.Room.{meanMonth, Fitting, Covering};
+ghost use Rattle.months.specs.Rules.{senmyo, genka, rulesOf};
+ghost use Rattle.months.specs.Months.{coveredYears, begun, monthOf, termNumber};
+ghost use Rattle.months.specs.Room.{lastTermOf, termYear, Starting, Ending, CoveredTerm};
+ghost use Rattle.months.specs.Year.{MonthDays};
 use genka::HALF_PARTS_IN_DAY;
 use units::FEN_IN_DAY;
 
@@ -18,16 +19,15 @@ pub struct YearRange {
     pub last: u16,
 }
 
-// A month by the number of its new moon, with the day on which it starts and the day on which the next does.
-pub struct Span {
+// A month by the number of its new moon, with the day on which it starts.
+pub struct Begun {
     pub month: u32,
     pub start: u64,
-    pub next: u64,
 }
 
-// A month's number, 1 to 12, and whether it is leap.
-pub struct Name {
-    pub number: u8,
+// The last mid-term by a month's end, and whether the month is leap: then it falls before the month's start.
+pub struct LastTerm {
+    pub term: u32,
     pub leap: bool,
 }
 
@@ -114,91 +114,104 @@ fn zeroth_number(calendar: Calendar) -> u64
 }
 
 // The number of the month that has a mid-term.
-fn term_number(calendar: Calendar, term: u32) -> u8
+pub fn term_number(calendar: Calendar, term: u32) -> u8
     ensures { λ r. ⌜ r ≡ termNumber (rulesOf calendar) term ⌝ }
 {
     ((term as u64 + zeroth_number(calendar) - 1) % 12 + 1) as u8
 }
 
-// The last mean new moon by the start of a day.
-fn mean_month(calendar: Calendar, day: u32) -> u32
-    ensures { λ r. ⌜ r ≡ meanMonth calendar day ⌝ }
+// The day of a mid-term of a year, the one that comes `after` the Rain Water by so many.
+pub fn term_day(calendar: Calendar, year: u16, after: u8) -> u32
+    ensures { λ r. ⌜ r ≡ rulesOf calendar .mid (rulesOf calendar .rainWater year + after) ⌝ }
 {
     match calendar {
-        Calendar::Senmyo => senmyo::mean_month(day),
-        Calendar::Genka => genka::mean_month(day),
+        Calendar::Senmyo => {
+            senmyo::mid_term_day(senmyo::rain_water(year) + (after as u32)) as u32
+        }
+        Calendar::Genka => genka::mid_term_day(genka::rain_water(year) + (after as u32)) as u32,
     }
 }
 
-// The month that has a day. It opens with the last mean new moon before the day, or with the next: one step is enough.
-pub fn month_of(calendar: Calendar, day: u32) -> Span
-    ensures { λ r. ⌜ r ≡ spanned (rulesOf calendar) (monthOf (rulesOf calendar) day) ⌝ }
+// A month, by the number of its new moon.
+pub fn begin(calendar: Calendar, month: u32) -> Begun
+    ensures { λ r. ⌜ r ≡ begun (rulesOf calendar) month ⌝ }
 {
-    let guess = mean_month(calendar, day);
-    let next = start(calendar, guess + 1);
-    if next <= day as u64 {
-        return Span {
-            month: guess + 1,
-            start: next,
-            next: start(calendar, guess + 2),
+    Begun {
+        month,
+        start: start(calendar, month),
+    }
+}
+
+// The month of Senmyo that has a day: the last that may begin by then, or the one before.
+fn senmyo_month(day: u32) -> Begun
+    ensures { λ r. ⌜ r ≡ begun senmyo (monthOf senmyo day) ⌝ }
+{
+    let latest = begin(Calendar::Senmyo, senmyo::latest_month(day));
+    if latest.start <= day as u64 {
+        return latest;
+    }
+    begin(Calendar::Senmyo, latest.month - 1)
+}
+
+// The month of Genka that has a day.
+fn genka_month(day: u32) -> Begun
+    ensures { λ r. ⌜ r ≡ begun genka (monthOf genka day) ⌝ }
+{
+    begin(Calendar::Genka, genka::month_by(day))
+}
+
+// The month that has a day.
+pub fn month_of(calendar: Calendar, day: u32) -> Begun
+    ensures { λ r. ⌜ r ≡ begun (rulesOf calendar) (monthOf (rulesOf calendar) day) ⌝ }
+{
+    match calendar {
+        Calendar::Senmyo => senmyo_month(day),
+        Calendar::Genka => genka_month(day),
+    }
+}
+
+// The last mid-term by the end of a month, which is the eve of `next`.
+pub fn last_term_by(calendar: Calendar, month: Begun, next: u64) -> LastTerm
+    requires { ⌜ Ending (rulesOf calendar) month next ⌝ }
+    ensures { λ r. ⌜ r ≡ lastTermOf (rulesOf calendar) (month .month) ⌝ }
+{
+    let term = mid_term_by(calendar, (next - 1) as u32);
+    LastTerm {
+        term,
+        leap: mid_day(calendar, term) < month.start,
+    }
+}
+
+// The same of a month of 29 or 30 days whose end is not known: that matters only to a mid-term on day 30.
+pub fn last_term_of(calendar: Calendar, month: Begun) -> LastTerm
+    requires { ⌜ Starting (rulesOf calendar) month ⌝ }
+    requires { ⌜ MonthDays (rulesOf calendar) (month .month) ⌝ }
+    ensures { λ r. ⌜ r ≡ lastTermOf (rulesOf calendar) (month .month) ⌝ }
+{
+    let term = mid_term_by(calendar, (month.start + 29) as u32);
+    let day = mid_day(calendar, term);
+    if day < month.start + 29 {
+        return LastTerm {
+            term,
+            leap: day < month.start,
         };
     }
-    Span {
-        month: guess,
-        start: start(calendar, guess),
-        next,
+    if day < start(calendar, month.month + 1) {
+        return LastTerm { term, leap: false };
+    }
+    LastTerm {
+        term: term - 1,
+        leap: true,
     }
 }
 
-// The month that has a mid-term of a year, the one that comes `after` the Rain Water by so many.
-pub fn month_with(calendar: Calendar, year: u16, after: u8) -> Span
-    ensures { λ r. ⌜ r ≡ spanned (rulesOf calendar) (monthWith (rulesOf calendar) (rulesOf calendar .rainWater year + after)) ⌝ }
-{
-    let term = rain_water(calendar, year) + (after as u32);
-    month_of(calendar, mid_day(calendar, term) as u32)
-}
-
-// The month after a month.
-pub fn month_after(calendar: Calendar, span: Span) -> Span
-    requires { ⌜ Fitting (rulesOf calendar) span ⌝ }
-    ensures { λ r. ⌜ r ≡ spanned (rulesOf calendar) (span .month + 1) ⌝ }
-{
-    Span {
-        month: span.month + 1,
-        start: span.next,
-        next: start(calendar, span.month + 2),
-    }
-}
-
-// The last mid-term by the last day of a month.
-fn last_term(calendar: Calendar, span: Span) -> u32
-    requires { ⌜ Fitting (rulesOf calendar) span ⌝ }
-    ensures { λ r. ⌜ r ≡ lastTerm (rulesOf calendar) (span .month) ⌝ }
-{
-    mid_term_by(calendar, (span.next - 1) as u32)
-}
-
-// A month's name: with a mid-term, its number; without one it is leap, and takes the number before it.
-pub fn name_of(calendar: Calendar, span: Span) -> Name
-    requires { ⌜ Fitting (rulesOf calendar) span ⌝ }
-    ensures { λ r. ⌜ r ≡ nameOf (rulesOf calendar) (span .month) ⌝ }
-{
-    let term = last_term(calendar, span);
-    Name {
-        number: term_number(calendar, term),
-        leap: mid_day(calendar, term) < span.start,
-    }
-}
-
-// The year of a month: each has twelve mid-terms, from its Rain Water on.
-pub fn year_with(calendar: Calendar, span: Span) -> u16
-    requires { ⌜ Fitting (rulesOf calendar) span ⌝ }
-    requires { ⌜ Covering (rulesOf calendar) (span .month) ⌝ }
-    ensures { λ r. ⌜ r ≡ yearWith (rulesOf calendar) (span .month) ⌝ }
+// The year of the month that has a mid-term: each year has twelve, from its Rain Water on.
+pub fn term_year(calendar: Calendar, term: u32) -> u16
+    requires { ⌜ CoveredTerm (rulesOf calendar) term ⌝ }
+    ensures { λ r. ⌜ r ≡ termYear (rulesOf calendar) term ⌝ }
 {
     let first = covered_years(calendar).first;
-    let terms = last_term(calendar, span) - rain_water(calendar, first);
-    first + (terms / 12) as u16
+    first + ((term - rain_water(calendar, first)) / 12) as u16
 }
 
 // The new moon of a month, before any advance.

@@ -1,8 +1,8 @@
--- Laws of the Moon's rows: what a row gives fits its word, and lies from −3195 to 3225.
+-- Laws of the Moon's rows: a row's numbers are small, and what it gives lies from −3195 to 3225.
 use mathlib.Core.Path.{_≡_, refl, sym, _∙_}
 use mathlib.Core.Bool.{Bool, true, false, _&&_}
-use Prim.Native.Nat.{ℕ, _+_, _-_, _*_, _/_, _%_, _<_, _≤_, _^_}
-use native.Mathlib.Nat.{mul-le-mul, le-of-lt, mod-eq-of-lt, div-eq-of-lt}
+use Prim.Native.Nat.{ℕ, _+_, _-_, _*_, _/_, _%_, _<_, _≤_}
+use native.Mathlib.Nat.{mod-eq-of-lt, div-eq-of-lt}
 use native.Mathlib.Omega.{arith}
 use borrow.Author.Tests.{leb-true, lt-ltb, le-ltb, ltb-true, ltb-false}
 use lib.Dec.{T, leb, ltb, leb→le}
@@ -13,17 +13,12 @@ use mir.Facts.{and-yes}
 use Rattle.numbers.specs.Sign.{plus, minus}
 use Rattle.numbers.specs.Rounding.{nearest}
 use Rattle.numbers.proofs.Difference.{is-neg, is-mul, is-parts, is-equal}
-use Rattle.numbers.proofs.Size.{Small, small-add, small-mul}
 use Rattle.numbers.proofs.Rounding.{Between, between, between-yes, between-ends, nearest-pos}
 use Rattle.numbers.proofs.Tests.{every, at-each-row}
 use Rattle.units.specs.declared.AnomalySecond.{AnomalySecond}
 use Rattle.units.specs.Units.{dayFen}
-use Rattle.moon.specs.declared.Change.{Change}
-use Rattle.moon.specs.declared.Change.the-variants.{Gain, Loss, GainThenLoss, FirstLoss}
-use Rattle.moon.specs.declared.MoonRow.{MoonRow}
-use Rattle.moon.specs.declared.Share.{Share}
-use Rattle.moon.specs.Moon.{upperRows, lowerRows, rows, noRow, fenToHalfSeconds, period, halfPeriod, part, shareOf, inHalf, signed, halfOf, moonOf}
-use Rattle.moon.specs.Room.{Part}
+use Rattle.moon.specs.Moon.{Change, Gain, Loss, GainThenLoss, FirstLoss, MoonRow, Share, upperRows, lowerRows, rows, noRow, fenToHalfSeconds, period, halfPeriod, part, shareOf, inHalf, signed, halfOf, moonOf}
+use Rattle.moon.specs.Room.{firstChange}
 
 -- half the period is 115,729.095 fen
 half-period : halfPeriod * 5 ≡ 115729_095
@@ -34,52 +29,9 @@ pub neg-times : (z : ℤ) (n : ℕ) → negℤ z *ℤ pos n ≡ negℤ (z *ℤ p
 neg-times z n = sym (is-equal (is-mul n (is-neg (is-parts z)))) ∙ is-equal (is-neg (is-mul n (is-parts z)))
 
 -- a sign before a line is a sign before each of its numbers
-signed-line : (s : Bool) (a b : ℤ) (n : ℕ) → signed s (a +ℤ b *ℤ pos n) ≡ signed s a +ℤ signed s b *ℤ pos n
+pub signed-line : (s : Bool) (a b : ℤ) (n : ℕ) → signed s (a +ℤ b *ℤ pos n) ≡ signed s a +ℤ signed s b *ℤ pos n
 signed-line true a b n = refl
 signed-line false a b n = rw (neg-times b n) (negℤ-+ℤ a (b *ℤ pos n))
-
--- ---- a row's part of a fen fits its word
-
--- the two products of a part, with a change of 32 bits
-pub record Products (sum change over length : ℕ) : Type 0 where
-  pub whole : sum * length ≤ 2 ^ 33 * fenToHalfSeconds dayFen
-  pub share : change * over ≤ 2 ^ 32 * fenToHalfSeconds dayFen
-
-pub products : {sum change over length : ℕ} → Part sum over length → change < 2 ^ 32 → Products sum change over length
-products r c = record { whole = mul-le-mul (le-of-lt (r .sum-small)) (r .length-small); share = mul-le-mul (le-of-lt c) (r .over-small) }
-
-pub record Sized (s : Share) : Type 0 where
-  pub some : 0 < s .divisor
-  pub few : s .divisor ≤ fenToHalfSeconds dayFen
-  pub size : Small (s .numerator) (5000 * fenToHalfSeconds dayFen + 1000 * fenToHalfSeconds dayFen)
-
-part-sized : (sum : ℕ) (change : ℤ) (t length : ℕ) → sum ≤ 5000 → natAbs change ≤ 1000 → t ≤ fenToHalfSeconds dayFen → 0 < length → length ≤ fenToHalfSeconds dayFen → Sized (part sum change t length)
-part-sized sum change t length s c h some few =
-    let whole : Small (pos (sum * length)) (5000 * fenToHalfSeconds dayFen) = record { size = mul-le-mul s few } in
-    let rate : Small change 1000 = record { size = c } in
-    record { some = some; few = few; size = small-add whole (small-mul t (fenToHalfSeconds dayFen) h rate) }
-
--- gains and losses of at most 1000 fen
-abbrev small : Change → Bool
-small (Gain gain) = leb (natAbs (plus gain)) 1000
-small (Loss loss) = leb (natAbs (minus loss)) 1000
-small (GainThenLoss gain loss) = leb (natAbs (plus gain)) 1000 && leb (natAbs (minus loss)) 1000
-small (FirstLoss loss) = leb (natAbs (minus loss)) 1000
-
-share-sized : (change : Change) (sum t : ℕ) → T (small change) → sum ≤ 4000 → t < fenToHalfSeconds dayFen → Sized (shareOf change sum t)
-unfolding shareOf
-share-sized (Gain gain) sum t c s h = part-sized sum (plus gain) t (fenToHalfSeconds dayFen) (omega arith) (leb→le _ _ c) (omega arith) (omega arith) (omega arith)
-share-sized (Loss loss) sum t c s h = part-sized sum (minus loss) t (fenToHalfSeconds dayFen) (omega arith) (leb→le _ _ c) (omega arith) (omega arith) (omega arith)
-share-sized (GainThenLoss gain loss) sum t c s h = by-part (leb t (fenToHalfSeconds 7465))
-  where
-    both : T (leb (natAbs (plus gain)) 1000) × T (leb (natAbs (minus loss)) 1000)
-    both = and-yes (leb (natAbs (plus gain)) 1000) (leb (natAbs (minus loss)) 1000) c
-
-    by-part : (b : Bool) → Sized (elim b as (λ _. Share) [ true ↦ part sum (plus gain) t (fenToHalfSeconds 7465) | false ↦ part (sum + gain) (minus loss) (t - fenToHalfSeconds 7465) (fenToHalfSeconds 935) ])
-    by-part true = part-sized sum (plus gain) t (fenToHalfSeconds 7465) (omega arith) (leb→le _ _ (both .0)) (omega arith) (omega arith) (omega arith)
-    by-part false =
-        part-sized (sum + gain) (minus loss) (t - fenToHalfSeconds 7465) (fenToHalfSeconds 935) (omega (arith, leb→le gain 1000 (both .0))) (leb→le _ _ (both .1)) (omega arith) (omega arith) (omega arith)
-share-sized (FirstLoss loss) sum t c s h = part-sized sum (minus loss) t (fenToHalfSeconds 6529) (omega arith) (leb→le _ _ c) (omega arith) (omega arith) (omega arith)
 
 -- ---- a row's part of a fen, rounded, lies from −3195 to 3225: it runs along a line whose ends are tested
 
@@ -119,38 +71,32 @@ share-between s (GainThenLoss gain loss) sum t tested h = by-part (leb t (fenToH
     by-part false e = between-parts s (sum + gain) (minus loss) (fenToHalfSeconds 935) (fenToHalfSeconds 935) (t - fenToHalfSeconds 7465) (omega arith) (both .1) (omega arith)
 share-between s (FirstLoss loss) sum t tested h = between-parts s sum (minus loss) (fenToHalfSeconds dayFen) (fenToHalfSeconds 6529) t (omega arith) tested (omega arith)
 
--- ---- both at every row, by one test over each table
+-- ---- this at every row, with how small its numbers are, by one test over each table
 
 abbrev rowTest : Bool → MoonRow → Bool
-rowTest upper w = small (w .0) && leb (w .1) 4000 && rowEnds upper (w .0) (w .1)
+rowTest upper w = leb (natAbs (firstChange (w .change))) 1000 && leb (w .sum) 4000 && rowEnds upper (w .change) (w .sum)
 
 row-tested : (upper : Bool) (i : ℕ) → i < 14 → T (rowTest upper (getD (rows upper) i noRow))
 unfolding every nearest upperRows lowerRows
 row-tested true i h = at-each-row (rowTest true) noRow upperRows tt i h
 row-tested false i h = at-each-row (rowTest false) noRow lowerRows tt i h
 
-record Row (upper : Bool) (w : MoonRow) : Type 0 where
-  change-small : T (small (w .0))
-  sum-small : w .1 ≤ 4000
-  tested : T (rowEnds upper (w .0) (w .1))
+pub record Row (upper : Bool) (w : MoonRow) : Type 0 where
+  pub change-small : natAbs (firstChange (w .change)) ≤ 1000
+  pub sum-small : w .sum ≤ 4000
+  pub tested : T (rowEnds upper (w .change) (w .sum))
 
-row-at : (upper : Bool) (h : ℕ) → h < halfPeriod → Row upper (getD (rows upper) (h / fenToHalfSeconds dayFen) noRow)
-row-at upper h g =
-    let w : MoonRow = getD (rows upper) (h / fenToHalfSeconds dayFen) noRow in
-    let (sizes, tested) = and-yes (small (w .0) && leb (w .1) 4000) (rowEnds upper (w .0) (w .1)) (row-tested upper (h / fenToHalfSeconds dayFen) (omega arith)) in
-    let (change, sum) = and-yes (small (w .0)) (leb (w .1) 4000) sizes in
-    record { change-small = change; sum-small = leb→le _ _ sum; tested = tested }
-
-pub half-sized : (upper : Bool) (h : ℕ) → h < halfPeriod → Sized (inHalf upper h)
-unfolding inHalf
-half-sized upper h g =
-    let r = row-at upper h g in
-    share-sized _ _ _ (r .change-small) (r .sum-small) (omega arith)
+pub row-at : (upper : Bool) (i : ℕ) → i < 14 → Row upper (getD (rows upper) i noRow)
+row-at upper i h =
+    let w : MoonRow = getD (rows upper) i noRow in
+    let (sizes, tested) = and-yes (leb (natAbs (firstChange (w .change))) 1000 && leb (w .sum) 4000) (rowEnds upper (w .change) (w .sum)) (row-tested upper i h) in
+    let (change, sum) = and-yes (leb (natAbs (firstChange (w .change))) 1000) (leb (w .sum) 4000) sizes in
+    record { change-small = leb→le _ _ change; sum-small = leb→le _ _ sum; tested = tested }
 
 half-between : (upper : Bool) (h : ℕ) → h < halfPeriod → Between (minus 3195) (halfOf upper h) (plus 3225)
 unfolding halfOf inHalf
 half-between upper h g =
-    let r = row-at upper h g in
+    let r = row-at upper (h / fenToHalfSeconds dayFen) (omega arith) in
     share-between upper _ _ _ (r .tested) (omega arith)
 
 -- which half a moment stands in

@@ -9,14 +9,24 @@ use Rattle.numbers.specs.Sign.{plus, minus}
 use Rattle.numbers.specs.Rounding.{nearest}
 use Rattle.units.specs.declared.AnomalySecond.{AnomalySecond}
 use Rattle.units.specs.Units.{dayFen}
-use Rattle.moon.specs.declared.Change.{Change}
-use Rattle.moon.specs.declared.Change.the-variants.{Gain, Loss, GainThenLoss, FirstLoss}
-use Rattle.moon.specs.declared.MoonRow.{MoonRow}
-use Rattle.moon.specs.declared.Share.{Share}
+
+-- how the correction changes in a day, in fen, as the page says it
+pub data Change : Type 0 where
+  Gain : ℕ → Change
+  Loss : ℕ → Change
+  -- a gain first, and a loss at the end
+  GainThenLoss : ℕ → ℕ → Change
+  -- a loss in what there is of the day
+  FirstLoss : ℕ → Change
+
+-- a day of the table: its change, and the sum before it
+pub record MoonRow : Type 0 where
+  pub change : Change
+  pub sum : ℕ
 
 -- a row as printed: gain or loss, and the sum
 abbrev pub row : Change → ℕ → MoonRow
-row change sum = (change, sum)
+row change sum = record { change = change; sum = sum }
 
 -- Table 4, upper half
 unfoldable pub upperRows : List MoonRow
@@ -73,6 +83,11 @@ period = 231458_19
 abbrev pub halfPeriod : ℕ
 halfPeriod = 2 * period / 2
 
+-- a part of a fen, before it is rounded
+pub record Share : Type 0 where
+  pub numerator : ℤ
+  pub divisor : ℕ
+
 -- sum + change × t/length
 abbrev pub part : ℕ → ℤ → ℕ → ℕ → Share
 part sum change t length = record { numerator = pos (sum * length) +ℤ change *ℤ pos t; divisor = length }
@@ -92,7 +107,7 @@ shareOf (FirstLoss loss) sum t = part sum (minus loss) t (fenToHalfSeconds 6529)
 unfoldable pub inHalf : Bool → ℕ → Share
 inHalf upper h =
     let w : MoonRow = getD (rows upper) (h / fenToHalfSeconds dayFen) noRow in
-    shareOf (w .0) (w .1) (h % fenToHalfSeconds dayFen)
+    shareOf (w .change) (w .sum) (h % fenToHalfSeconds dayFen)
 
 -- the upper half with plus, the lower with minus
 abbrev pub signed : Bool → ℤ → ℤ

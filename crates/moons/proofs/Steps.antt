@@ -9,13 +9,13 @@ use Rattle.numbers.proofs.Answers.{one-given, then-need}
 use Rattle.eclipse.specs.Eclipse.{Graded}
 use Rattle.months.specs.declared.Calendar.{Calendar}
 use Rattle.months.specs.declared.Calendar.the-variants.{Senmyo}
-use Rattle.months.specs.declared.Span.{Span}
+use Rattle.months.specs.declared.Begun.{Begun}
 use Rattle.months.specs.Rules.{Rules, senmyo, rulesOf}
-use Rattle.months.specs.Months.{spanned}
+use Rattle.months.specs.Months.{begun}
 use Rattle.months.specs.Room.{Covering}
 use Rattle.asked.specs.Asked.{isCalendar, numbered, rulesFor, isCovered, monthNamed, hasMonth, monthAsked}
 use Rattle.asked.proofs.Given.{month-given}
-use Rattle.asked.proofs.Covered.{asked-span}
+use Rattle.asked.proofs.Covered.{asked-month-covered}
 use Rattle.moons.specs.declared.FullMoon.{FullMoon}
 use Rattle.moons.specs.Eclipses.{eclipseIn, eclipseOf}
 use Rattle.moons.specs.Instants.{ofMonth}
@@ -23,14 +23,14 @@ use Rattle.moons.specs.Instants.{ofMonth}
 -- ---- what is asked of a month
 
 module _ {A : Type 0} (what : Rules → ℕ → A) (c y m : ℕ) (leap : Bool) where
-  abbrev told : Calendar × Span → Answer A
+  abbrev told : Calendar × Begun → Answer A
   told a = given (what (rulesOf (a .0)) (a .1 .month))
 
   pub of-asked : ofMonth what c y m leap ≡ then (monthAsked c y m leap) told
   unfolding monthAsked
   of-asked =
       let r : Rules = rulesFor c in
-      let a : Answer (Calendar × Span) = given (numbered c, spanned r (monthNamed r y m leap)) in
+      let a : Answer (Calendar × Begun) = given (numbered c, begun r (monthNamed r y m leap)) in
       sym
       (then-need (isCalendar c) 1 (need (isCovered r y) 2 (need (hasMonth r y m leap) 3 a)) told
       ∙ ap (need (isCalendar c) 1) (then-need (isCovered r y) 2 (need (hasMonth r y m leap) 3 a) told ∙ ap (need (isCovered r y) 2) (then-need (hasMonth r y m leap) 3 a told)))
@@ -38,7 +38,7 @@ module _ {A : Type 0} (what : Rules → ℕ → A) (c y m : ℕ) (leap : Bool) w
   pub of-refused : (n : ℕ) → monthAsked c y m leap ≡ refused n → ofMonth what c y m leap ≡ refused n
   of-refused n e = of-asked ∙ ap (λ a. then a told) e
 
-  pub of-found : (k : Calendar) (s : Span) → monthAsked c y m leap ≡ given (k, s) → ofMonth what c y m leap ≡ given (what (rulesOf k) (s .month))
+  pub of-found : (k : Calendar) (s : Begun) → monthAsked c y m leap ≡ given (k, s) → ofMonth what c y m leap ≡ given (what (rulesOf k) (s .month))
   of-found k s e = of-asked ∙ ap (λ a. then a told) e
 
 -- ---- the eclipse: what is asked of a month of Senmyo
@@ -68,9 +68,9 @@ is-senmyo c h is = by-number (eqb c 1) refl
     by-number true e = rw (e, numbered)
     by-number false e = absurd (false≢true (sym (rw (e, ne-eqb c 2 h)) ∙ is))
 
-pub senmyo-found : (c y m : ℕ) (leap : Bool) (k : Calendar) (s : Span) → (c ≡ 2 → ⊥) → monthAsked c y m leap ≡ given (k, s) → Covering senmyo (s .month)
+pub senmyo-found : (c y m : ℕ) (leap : Bool) (k : Calendar) (s : Begun) → (c ≡ 2 → ⊥) → monthAsked c y m leap ≡ given (k, s) → Covering senmyo (s .month)
 unfolding rulesOf
 senmyo-found c y m leap k s h e =
     let g = month-given c y m leap (k, s) .only-if e in
-    let same : k ≡ Senmyo = sym (ap (λ (a : Calendar × Span). a .0) (one-given (numbered c, spanned (rulesFor c) (monthNamed (rulesFor c) y m leap)) (k, s) (g .1 .1 .1))) ∙ is-senmyo c h (g .0) in
-    subst (λ (k : Calendar). Covering (rulesOf k) (s .month)) same (asked-span c y m leap k s e .covering)
+    let same : k ≡ Senmyo = sym (ap (λ (a : Calendar × Begun). a .0) (one-given (numbered c, begun (rulesFor c) (monthNamed (rulesFor c) y m leap)) (k, s) (g .1 .1 .1))) ∙ is-senmyo c h (g .0) in
+    subst (λ (k : Calendar). Covering (rulesOf k) (s .month)) same (asked-month-covered c y m leap k s e .covering)

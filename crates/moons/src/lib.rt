@@ -73,10 +73,10 @@ pub fn eclipse_of(calendar: u64, year: u64, month: u64, leap: bool) -> EclipseAn
         return EclipseAnswer::Refused(13);
     }
     let asked = asked::asked_month(calendar, year, month, leap);
-    let MonthAsked::Found(_, span) = asked else {
+    let MonthAsked::Found(_, found) = asked else {
         return EclipseAnswer::Refused(asked::month_refusal(asked));
     };
-    let moon = full_moon_at(span.month);
+    let moon = full_moon_at(found.month);
     EclipseAnswer::FullMoon(moon, eclipse::grade_of(moon.distance))
 }
 
@@ -103,10 +103,10 @@ fn phase_of(calendar: u64, year: u64, month: u64, leap: bool, phase: Phase) -> I
     ensures { λ r. ⌜ instantMeans r ≡ phaseOf phase calendar year month leap ⌝ }
 {
     let asked = asked::asked_month(calendar, year, month, leap);
-    let MonthAsked::Found(known, span) = asked else {
+    let MonthAsked::Found(known, found) = asked else {
         return Instant::Refused(asked::month_refusal(asked));
     };
-    Instant::At(instant_of(known, moment_of(known, span.month, phase)))
+    Instant::At(instant_of(known, moment_of(known, found.month, phase)))
 }
 
 // The new moon of a month.
@@ -128,11 +128,11 @@ pub fn moons_of(calendar: u64, year: u64, month: u64, leap: bool) -> MoonsAnswer
     ensures { λ r. ⌜ moonsMeans r ≡ moonsOf calendar year month leap ⌝ }
 {
     let asked = asked::asked_month(calendar, year, month, leap);
-    let MonthAsked::Found(known, span) = asked else {
+    let MonthAsked::Found(known, found) = asked else {
         return MoonsAnswer::Refused(asked::month_refusal(asked));
     };
     MoonsAnswer::Both(Moons {
-        new: instant_of(known, months::new_moon(known, span.month)),
-        full: instant_of(known, months::full_moon(known, span.month)),
+        new: instant_of(known, months::new_moon(known, found.month)),
+        full: instant_of(known, months::full_moon(known, found.month)),
     })
 }

@@ -1,5 +1,7 @@
 ghost use mathlib.Core.Path.{_≡_};
 ghost use Prim.Native.Nat.{_+_, _-_};
+ghost use Rattle.months.specs.Months.{monthCount};
+ghost use Rattle.asked.specs.Asked.{rulesFor};
 ghost use Rattle.calendar.specs.Answers.{dayMeans, dateMeans};
 ghost use Rattle.kept.specs.Runs.{noRun, runOf};
 ghost use Rattle.run.specs.Calls.{openOf, extendOf, dropOf, runDayOf, runDateOf};
@@ -55,21 +57,32 @@ pub fn extend_run(run: Run) -> RunAnswer
     }
 }
 
+// How many months the oldest of several years has: the date in the thirteenth place tells whose month that is.
+fn oldest_months(run: Run) -> u8
+    requires { ⌜ Droppable run ⌝ }
+    ensures { λ r. ⌜ r ≡ monthCount (rulesFor (run .calendar)) (run .«first_year») ⌝ }
+{
+    let thirteenth = run.last_dates[12];
+    if thirteenth % 100_000_000 / 10_000 == run.first_year as u32 {
+        return 13;
+    }
+    12
+}
+
 // A run without its first year: the later months move up, and the places that they leave hold zero.
 fn without_oldest(run: Run) -> Run
     requires { ⌜ Droppable run ⌝ }
     ensures { λ r. ⌜ r ≡ runOf (run .calendar) (run .«first_year» + 1) (run .years - 1) ⌝ }
 {
-    let answer = calendar::year_of(run.calendar as u64, run.first_year as u64);
-    let oldest = answer.year;
-    let left = run.count - oldest.count;
+    let oldest = oldest_months(run);
+    let left = run.count - oldest;
     let empty = kept::empty_run(run.calendar, run.first_year + 1);
     let mut first_days = empty.first_days;
     let mut last_dates = empty.last_dates;
     let mut place: usize = 0;
     while place < left as usize {
-        first_days[place] = run.first_days[place + oldest.count as usize];
-        last_dates[place] = run.last_dates[place + oldest.count as usize];
+        first_days[place] = run.first_days[place + oldest as usize];
+        last_dates[place] = run.last_dates[place + oldest as usize];
         place += 1;
     }
     Run {

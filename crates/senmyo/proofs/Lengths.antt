@@ -1,7 +1,7 @@
 -- How long months of Senmyo last. Of every month, the corrections' bounds tell that it has 28 to 31 days; that it has 29 or 30 is
 -- computed for the months that the covered years need.
 use mathlib.Core.Bool.{Bool, _&&_}
-use Prim.Native.Nat.{ℕ, _+_, _*_, _<_, _≤_}
+use Prim.Native.Nat.{ℕ, _+_, _-_, _*_, _<_, _≤_}
 use native.Mathlib.Omega.{arith}
 use lib.Dec.{T, leb, leb→le, ltb→lt}
 use lib.IntN.{pos, _+ℤ_, _*ℤ_}
@@ -15,7 +15,7 @@ use Rattle.numbers.proofs.Tests.{everyTwo, at-each-two}
 use Rattle.units.specs.Units.{fenToByo, wholeDays}
 use Rattle.means.specs.Means.{meanNewMoon, meanFullMoon, midTermDay, rainWater}
 use Rattle.senmyo.specs.Phases.{corrections, newMoon, newMoonDay, fullMoon, fullMoonFen}
-use Rattle.means.specs.Room.{meanMonth}
+use Rattle.senmyo.specs.Room.{latestMonth}
 use Rattle.senmyo.proofs.Worked.{dayAt}
 use Rattle.senmyo.proofs.PhaseLaws.{corrections-between, new-moon-exact, full-moon-exact, advance-is-floor}
 
@@ -53,24 +53,35 @@ tested-to = ltb→lt _ _ tt
 
 -- ---- of every month, by the bounds of the corrections
 
--- where the day of new moon k lies, beside its mean
+-- where new moon k lies, beside its mean
+record NearMoment (k : ℕ) : Type 0 where
+  not-late : newMoon k .0 ≤ 248057 * k + 4751
+  not-early : 248057 * k ≤ newMoon k .0 + 4721
+
+near-moment : (k : ℕ) → NearMoment k
+near-moment k =
+    let mean = fenToByo (meanNewMoon k) in
+    let both = is-parts (corrections mean) in
+    let told : Is (pos (248057 * k) +ℤ corrections mean) (newMoon k .0) 0 = rw (new-moon-exact k) at (is-pos (newMoon k .0)) in
+    let sum = is-one told (is-add (is-pos (248057 * k)) both) in
+    record {
+      not-late = omega (arith, sum, le-is both (is-pos 4751) (corrections-between mean .to));
+      not-early = omega (arith, sum, le-is (is-neg (is-pos 4721)) both (corrections-between mean .from));
+    }
+
+pub new-moon-small : (k : ℕ) → newMoon k .0 ≤ 248057 * k + 4751
+new-moon-small k = near-moment k .not-late
+
+-- .. and its day
 pub record NearMean (k : ℕ) : Type 0 where
   pub not-late : 8400 * newMoonDay k ≤ 248057 * k + 6851
   pub not-early : 248057 * k < 8400 * newMoonDay k + 11021
 
 pub near-mean : (k : ℕ) → NearMean k
 near-mean k =
-    let mean = fenToByo (meanNewMoon k) in
-    let both = is-parts (corrections mean) in
-    let told : Is (pos (248057 * k) +ℤ corrections mean) (newMoon k .0) 0 = rw (new-moon-exact k) at (is-pos (newMoon k .0)) in
-    let sum = is-one told (is-add (is-pos (248057 * k)) both) in
-    let low = le-is (is-neg (is-pos 4721)) both (corrections-between mean .from) in
-    let high = le-is both (is-pos 4751) (corrections-between mean .to) in
+    let near = near-moment k in
     let day = advance-is-floor (newMoon k) in
-    record {
-      not-late = omega (arith, sum, high, day);
-      not-early = omega (arith, sum, low, day);
-    }
+    record { not-late = omega (arith, near, day); not-early = omega (arith, near, day) }
 
 pub new-moons-grow : Growing newMoonDay
 new-moons-grow = record { zeroth = omega (arith, near-mean 0); grows = λ k. omega (arith, near-mean k, near-mean (k + 1)) }
@@ -79,12 +90,12 @@ new-moons-grow = record { zeroth = omega (arith, near-mean 0); grows = λ k. ome
 pub months-of-14-years : (k : ℕ) → newMoonDay k + 5114 < newMoonDay (k + 174)
 months-of-14-years k = omega (arith, near-mean k, near-mean (k + 174))
 
--- the mean new moon before a day's start opens the month of that day, or the month before
-pub opened-by-start : (d : ℕ) → newMoonDay (meanMonth d) ≤ d
-opened-by-start d = omega (arith, near-mean (meanMonth d))
+-- the last month that may begin by a day has that day, or the month before has it
+pub latest-begun : (d : ℕ) → newMoonDay (latestMonth d - 1) ≤ d
+latest-begun d = omega (arith, near-mean (latestMonth d - 1))
 
-pub second-opens-after : (d : ℕ) → d < newMoonDay (meanMonth d + 2)
-second-opens-after d = omega (arith, near-mean (meanMonth d + 2))
+pub none-later : (d : ℕ) → d < newMoonDay (latestMonth d + 1)
+none-later d = omega (arith, near-mean (latestMonth d + 1))
 
 -- the full moon falls on the 14th to the 17th day of its month
 pub record InMidst (k : ℕ) : Type 0 where

@@ -21,43 +21,34 @@ use Rattle.means.specs.Means.{meanNewMoon, meanFullMoon}
 use Rattle.sun.specs.Sun.{sunOf}
 use Rattle.moon.specs.Moon.{moonOf}
 use Rattle.senmyo.specs.Phases.{corrections, newMoon, advancedDay, fullMoon}
-use Rattle.senmyo.specs.Room.{Movable}
 use Rattle.sun.proofs.Bounds.{sun-bounds, sun-first-day}
 use Rattle.moon.proofs.Rows.{moon-bounds, moon-first-day}
 
--- a moment with one correction, and with both
-abbrev pub bySun : Byo → ℤ
-bySun m = pos (m .0) +ℤ sunOf m *ℤ pos 8
-
-abbrev pub byBoth : Byo → ℤ
-byBoth m = bySun m +ℤ moonOf (byoToAnomalySeconds m) *ℤ pos 8
-
-pub record AfterStart (m : Byo) : Type 0 where
-  pub with-sun : pos 0 ≤ℤ bySun m
-  pub with-both : pos 0 ≤ℤ byBoth m
-
 -- a moment from which the corrections take no more than it has
-far-enough : (m : Byo) (s n : ℕ) → (s + n) * 8 ≤ m .0 → minus s ≤ℤ sunOf m → minus n ≤ℤ moonOf (byoToAnomalySeconds m) → AfterStart m
+far-enough : (m : Byo) (s n : ℕ) → (s + n) * 8 ≤ m .0 → minus s ≤ℤ sunOf m → minus n ≤ℤ moonOf (byoToAnomalySeconds m) → pos 0 ≤ℤ (pos (m .0) +ℤ corrections m *ℤ pos 8)
+unfolding corrections
 far-enough m s n h sun moon =
-    let a = byoToAnomalySeconds m in
-    let one = is-add (is-pos (m .0)) (is-mul 8 (is-parts (sunOf m))) in
-    let low = le-is (is-neg (is-pos s)) (is-parts (sunOf m)) sun in
-    record {
-      with-sun = is-le (is-pos 0) one (omega (arith, low));
-      with-both =
-          is-le (is-pos 0) (is-add one (is-mul 8 (is-parts (moonOf a))))
-          (omega (arith, low, le-is (is-neg (is-pos n)) (is-parts (moonOf a)) moon));
-    }
+    let by-sun = is-parts (sunOf m) in
+    let by-moon = is-parts (moonOf (byoToAnomalySeconds m)) in
+    is-le (is-pos 0) (is-add (is-pos (m .0)) (is-mul 8 (is-add by-sun by-moon)))
+    (omega (arith, le-is (is-neg (is-pos s)) by-sun sun, le-is (is-neg (is-pos n)) by-moon moon))
 
-pub after-start : (m : Byo) → AfterStart m
+pub after-start : (m : Byo) → pos 0 ≤ℤ (pos (m .0) +ℤ corrections m *ℤ pos 8)
 after-start m = by-day (ltb (m .0) dayByo) refl
   where
-    by-day : (b : Bool) → ltb (m .0) dayByo ≡ b → AfterStart m
+    by-day : (b : Bool) → ltb (m .0) dayByo ≡ b → pos 0 ≤ℤ (pos (m .0) +ℤ corrections m *ℤ pos 8)
     by-day true e =
         let early = ltb-true (m .0) dayByo e in
         far-enough m 0 0 (omega arith) (sun-first-day m early) (moon-first-day _ (omega arith))
     by-day false e =
         far-enough m 1526 3195 (omega (arith, ltb-false (m .0) dayByo e)) (sun-bounds m .from) (moon-bounds _ .from)
+
+-- .. and in fen, from a mean new moon, which is of whole fen
+pub new-moon-after-start : (k : ℕ) → pos 0 ≤ℤ (pos (meanNewMoon k .0) +ℤ corrections (fenToByo (meanNewMoon k)))
+new-moon-after-start k =
+    let both = is-parts (corrections (fenToByo (meanNewMoon k))) in
+    let room = le-is (is-pos 0) (is-add (is-pos (248057 * k * 8)) (is-mul 8 both)) (after-start (fenToByo (meanNewMoon k))) in
+    is-le (is-pos 0) (is-add (is-pos (248057 * k)) both) (omega (arith, room))
 
 pub sun-small : (m : Byo) → Small (sunOf m) (1526 + 1526)
 sun-small m = small-between 1526 1526 (sun-bounds m .from) (sun-bounds m .to)
@@ -81,45 +72,10 @@ corrections-between m =
           (omega (arith, le-is sun (is-pos 1526) (sun-bounds m .to), le-is moon (is-pos 3225) (moon-bounds a .to)));
     }
 
--- so a moment can be moved by the Sun's correction, and then by the Moon's
-pub sun-movable : (m : Byo) → m .0 < 2 ^ 57 → Movable m (sunOf m)
-sun-movable m h =
-    record {
-      moment-small = omega arith;
-      correction-small = omega (arith, sun-small m .size);
-      after-start = after-start m .with-sun;
-    }
-
-pub moon-movable : (m r : Byo) → m .0 < 2 ^ 57 → pos (r .0) ≡ bySun m → Movable r (moonOf (byoToAnomalySeconds m))
-moon-movable m r h e =
-    let one : Is (bySun m) (r .0) 0 = rw e at (is-pos (r .0)) in
-    let top = le-is (is-parts (sunOf m)) (is-pos 1526) (sun-bounds m .to) in
-    record {
-      moment-small = omega (arith, top, is-one one (is-add (is-pos (m .0)) (is-mul 8 (is-parts (sunOf m)))));
-      correction-small = omega (arith, moon-small (byoToAnomalySeconds m) .size);
-      after-start = rw e (after-start m .with-both);
-    }
-
--- the two corrections one after the other are both at once
-pub both-at-once : (m : Byo) → byBoth m ≡ pos (m .0) +ℤ corrections m *ℤ pos 8
-unfolding corrections
-both-at-once m =
-    let s = is-parts (sunOf m) in
-    let n = is-parts (moonOf (byoToAnomalySeconds m)) in
-    is-same (is-add (is-add (is-pos (m .0)) (is-mul 8 s)) (is-mul 8 n)) (is-add (is-pos (m .0)) (is-mul 8 (is-add s n))) (omega arith)
+pub corrections-small : (m : Byo) → Small (corrections m) (4721 + 4751)
+corrections-small m = small-between 4721 4751 (corrections-between m .from) (corrections-between m .to)
 
 -- ---- moments told by naturals
-
-moved-fen : (m c : ℕ) (z : ℤ) → pos c ≡ pos (m * 8) +ℤ z *ℤ pos 8 → c / 8 ≡ whole (pos m +ℤ z)
-moved-fen m c z e =
-    let told : Is (pos (m * 8) +ℤ z *ℤ pos 8) c 0 = rw e at (is-pos c) in
-    let same = is-one told (is-add (is-pos (m * 8)) (is-mul 8 (is-parts z))) in
-    omega (arith, same, is-whole (omega (arith, same)) (is-add (is-pos m) (is-parts z)))
-
--- a mean new moon is of whole fen: corrected in byo, its whole fen are the true new moon
-pub new-moon-told : (k : ℕ) (c : Byo) → pos (c .0) ≡ pos (fenToByo (meanNewMoon k) .0) +ℤ corrections (fenToByo (meanNewMoon k)) *ℤ pos 8 → byoToFen c ≡ newMoon k
-unfolding newMoon
-new-moon-told k c e = ap fen (moved-fen (248057 * k) (c .0) (corrections (fenToByo (meanNewMoon k))) e)
 
 whole-exact : (z : ℤ) → pos 0 ≤ℤ z → pos (whole z) ≡ z
 whole-exact (pos n) h = refl
@@ -128,15 +84,11 @@ whole-exact (negsuc n) h = absurd (h .le)
 -- nothing is cut off where the definitions go from a signed number to a natural
 pub full-moon-exact : (k : ℕ) → pos (fullMoon k .0) ≡ pos (meanFullMoon k .0) +ℤ corrections (meanFullMoon k) *ℤ pos 8
 unfolding fullMoon
-full-moon-exact k = whole-exact _ (rw both-at-once at (after-start (meanFullMoon k) .with-both))
+full-moon-exact k = whole-exact _ (after-start (meanFullMoon k))
 
 pub new-moon-exact : (k : ℕ) → pos (newMoon k .0) ≡ pos (meanNewMoon k .0) +ℤ corrections (fenToByo (meanNewMoon k))
 unfolding newMoon
-new-moon-exact k =
-    let z = corrections (fenToByo (meanNewMoon k)) in
-    let late = rw both-at-once at (after-start (fenToByo (meanNewMoon k)) .with-both) in
-    let room = le-is (is-pos 0) (is-add (is-pos (248057 * k * 8)) (is-mul 8 (is-parts z))) late in
-    whole-exact _ (is-le (is-pos 0) (is-add (is-pos (248057 * k)) (is-parts z)) (omega (arith, room)))
+new-moon-exact k = whole-exact _ (new-moon-after-start k)
 
 -- ---- the advance
 

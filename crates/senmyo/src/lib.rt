@@ -1,7 +1,7 @@
 use eclipse::Node;
 use eclipse::NodeSecond;
+use means::MONTH;
 pub use means::mean_full_moon;
-pub use means::mean_month;
 pub use means::mean_new_moon;
 pub use means::mid_term;
 pub use means::mid_term_by;
@@ -11,48 +11,52 @@ pub use moon::moon_of;
 pub use sun::sun_of;
 use units::BYO_IN_FEN;
 use units::Byo;
+use units::FEN_IN_DAY;
 use units::Fen;
 ghost use mathlib.Core.Path.{_≡_};
 ghost use Prim.Native.Nat.{_<_, _^_};
-ghost use lib.IntN.{pos, _+ℤ_, _*ℤ_};
+ghost use lib.IntN.{pos, _+ℤ_};
 ghost use Rattle.senmyo.specs.Phases.{corrections, newMoon, advancedDay, newMoonDay, fullMoon, fullMoonFen};
 ghost use Rattle.senmyo.specs.FullMoons.{nodePlaceAt, nodeAt};
-ghost use Rattle.senmyo.specs.Room.{Movable};
+ghost use Rattle.senmyo.specs.Room.{latestMonth, Movable};
 
-// A moment with a correction.
-fn moved(moment: Byo, correction: i64) -> Byo
-    requires { ⌜ Movable moment correction ⌝ }
-    ensures { λ r. ⌜ pos (r .0) ≡ pos (moment .0) +ℤ correction *ℤ pos 8 ⌝ }
+// From this fen of its day on, a new moon counts to the next day.
+const ADVANCE: u64 = 6300;
+
+// Sun and Moon together put no new moon farther before its mean.
+const MOST_EARLY: u64 = 1526 + 3195;
+
+// Both corrections together, in fen. Both are taken at the mean moment.
+fn correction(mean: Byo) -> i64
+    requires { ⌜ mean .0 < 2 ^ 57 ⌝ }
+    ensures { λ r. ⌜ r ≡ corrections mean ⌝ }
 {
-    Byo((moment.0 as i64 + correction * (BYO_IN_FEN as i64)) as u64)
+    let sun = sun_of(mean);
+    sun + moon_of(units::byo_to_anomaly_seconds(mean))
 }
 
-// A mean moment with both corrections, which are both taken at it.
-fn corrected(mean: Byo) -> Byo
-    requires { ⌜ mean .0 < 2 ^ 57 ⌝ }
-    ensures { λ r. ⌜ pos (r .0) ≡ pos (mean .0) +ℤ corrections mean *ℤ pos 8 ⌝ }
+// A count, and a signed one of the same unit that moves it.
+fn moved(count: u64, by: i64) -> u64
+    requires { ⌜ Movable count by ⌝ }
+    ensures { λ r. ⌜ pos r ≡ pos count +ℤ by ⌝ }
 {
-    let by_sun = moved(mean, sun_of(mean));
-    moved(by_sun, moon_of(units::byo_to_anomaly_seconds(mean)))
+    (count as i64 + by) as u64
 }
 
 // The true new moon.
 pub fn new_moon(number: u32) -> Fen
     ensures { λ r. ⌜ r ≡ newMoon number ⌝ }
 {
-    units::byo_to_fen(corrected(units::fen_to_byo(mean_new_moon(number))))
+    let mean = mean_new_moon(number);
+    Fen(moved(mean.0, correction(units::fen_to_byo(mean))))
 }
 
 // The day to which a new moon at this moment counts, in whole days from the start of the count.
 pub fn advanced_day(moment: Fen) -> u64
+    requires { ⌜ moment .0 < 2 ^ 63 ⌝ }
     ensures { λ r. ⌜ r ≡ advancedDay moment ⌝ }
 {
-    let day = units::whole_days(moment);
-    if 6300 <= units::fen_of_day(moment).0 {
-        day + 1
-    } else {
-        day
-    }
+    units::whole_days(Fen(moment.0 + (FEN_IN_DAY - ADVANCE)))
 }
 
 // The day of the true new moon, in whole days from the start of the count.
@@ -62,11 +66,19 @@ pub fn new_moon_day(number: u32) -> u64
     advanced_day(new_moon(number))
 }
 
+// The last new moon that may count to a day or to one before: it falls before the day's advance, and its mean is so much later at most.
+pub fn latest_month(day: u32) -> u32
+    ensures { λ r. ⌜ r ≡ latestMonth day ⌝ }
+{
+    ((FEN_IN_DAY * (day as u64) + ADVANCE + MOST_EARLY - 1) / MONTH) as u32
+}
+
 // The full moon after new moon `number`, exactly.
 pub fn full_moon(number: u32) -> Byo
     ensures { λ r. ⌜ r ≡ fullMoon number ⌝ }
 {
-    corrected(mean_full_moon(number))
+    let mean = mean_full_moon(number);
+    Byo(moved(mean.0, correction(mean) * (BYO_IN_FEN as i64)))
 }
 
 // The same in whole fen.

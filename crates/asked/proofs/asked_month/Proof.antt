@@ -5,26 +5,14 @@ use native.Mathlib.Omega.{arith}
 use borrow.Author.Needs.{needs}
 use Rattle.numbers.specs.Answer.{given, refusalIn}
 use Rattle.months.specs.Rules.{Rules, rulesOf}
-use Rattle.months.specs.Months.{isLeap}
+use Rattle.months.specs.Months.{begun, isLeap}
 use Rattle.asked.specs.Answers.{yearMeans}
 use Rattle.asked.specs.Room.{CoveredYear}
 use Rattle.asked.proofs.Steps.{month-refused, month-0, month-13, regular-found, leap-found, leap-lacking}
-use Rattle.asked.proofs.Covered.{asked-covered, regular-small}
+use Rattle.asked.proofs.Covered.{asked-covered, regular-small, after-days}
 use Rattle.asked.proofs.asked_month.Statement.{statement}
 use Rattle.asked.specs.Asked.{regularMonth, yearAsked}
 use Rattle.asked.proofs.asked_month.Tie as tie
-
-asked-year-requires : tie.Need-asked-year-requires
-asked-year-requires c κs = search needs
-
-enum-known-asked : tie.Need-enum-known-asked
-enum-known-asked c = search needs
-
-enum-told : tie.Need-enum-told
-enum-told c = search needs
-
-year-refusal-requires : tie.Need-year-refusal-requires
-year-refusal-requires c κs = search needs
 
 returns : tie.Need-returns
 returns c =
@@ -52,60 +40,65 @@ returns-2 c = month-0 _ _ _ _ _ _ (year-asked (c .before)) (c .if1 .taken)
 returns-3 : tie.Need-returns-3
 returns-3 c = month-13 _ _ _ _ _ _ (year-asked (c .before .before)) (c .before .if1 .left) (c .if2 .taken)
 
-cast-month-with : tie.Need-cast-month-with
-cast-month-with c = search needs
+-- .. as it was found
+found : (c : tie.After-month-of) → c .month-of .result ≡ begun (rules (c .before .before .before .before)) (regular (c .before .before .before .before))
+found c = rw (c .before .term-day .ensures) at (c .month-of .ensures)
 
-month-with-requires : tie.Need-month-with-requires
-month-with-requires c κs = search needs
+add-begin : tie.Need-add-begin
+add-begin c =
+    let m = c .before .before in
+    let there = m .before .before in
+    let month : m .month-of .result .month ≡ regular (there .before .before) = ap (λ b. b .month) (found m) in
+    omega (arith, month, regular-small _ _ (covered (there .before .before)) _ (there .before .if1 .left) (there .if2 .left))
 
-month-after-requires : tie.Need-month-after-requires
-month-after-requires c κs =
-    let there = c .before .before in
-    rw (c .before .month-with .ensures) (record { own = refl; small = omega (arith, regular-small _ _ (covered (there .before .before)) _ (there .before .if1 .left) (there .if2 .left)) })
+last-term-of-requires : tie.Need-last-term-of-requires
+last-term-of-requires c κs =
+    let m = c .before .before .before in
+    let there = m .before .before in
+    rw (c .begin .ensures, found m)
+    (record { own = refl; small = regular-small _ _ (covered (there .before .before)) _ (there .before .if1 .left) (there .if2 .left) }, after-days _ _ (covered (there .before .before)) _ (there .before .if1 .left) (there .if2 .left))
 
-name-of-requires : tie.Need-name-of-requires
-name-of-requires c κs =
-    let there = c .before .before .before in
-    rw (c .month-after .ensures, c .before .before .month-with .ensures) (record { own = refl; small = regular-small _ _ (covered (there .before .before)) _ (there .before .if1 .left) (there .if2 .left) })
-
--- whether the month after is leap was read off its name
-leap-told : (c : tie.After-name-of) → isLeap (rules (c .before .before .before .before .before .before)) (regular (c .before .before .before .before .before .before) + 1) ≡ c .name-of .result .leap
+-- whether the month after is leap was told with its mid-term
+leap-told : (c : tie.After-last-term-of) → isLeap (rules (c .before .before .before .before .before .before .before .before)) (regular (c .before .before .before .before .before .before .before .before) + 1) ≡ c .last-term-of .result .leap
 leap-told c =
-    let told = ap (λ n. n .leap) (sym (c .name-of .ensures)) in
-    rw (c .before .month-after .ensures, c .before .before .before .month-with .ensures) at told
+    let told = ap (λ n. n .leap) (sym (c .last-term-of .ensures)) in
+    rw (c .before .begin .ensures, found (c .before .before .before .before)) at told
 
 returns-4 : tie.Need-returns-4
 returns-4 c =
     let after = c .before .before in
-    let there = after .before .before .before in
-    leap-found _ _ _ _ _ _ (year-asked (there .before .before)) (there .before .if1 .left) (there .if2 .left) _ (after .before .if3 .taken) (leap-told (c .before) ∙ c .if4 .taken) (rw (after .before .before .month-with .ensures) at (after .month-after .ensures))
+    let m = after .before .before .before in
+    let there = m .before .before in
+    leap-found _ _ _ _ _ _ (year-asked (there .before .before)) (there .before .if1 .left) (there .if2 .left) _ (after .before .before .if3 .taken) (leap-told (c .before) ∙ c .if4 .taken) (rw (found m) at (after .begin .ensures))
 
 returns-5 : tie.Need-returns-5
 returns-5 c =
     let after = c .before .before in
-    let there = after .before .before .before in
-    leap-lacking _ _ _ _ _ _ (year-asked (there .before .before)) (there .before .if1 .left) (there .if2 .left) (after .before .if3 .taken) (leap-told (c .before) ∙ c .if4 .left)
+    let there = after .before .before .before .before .before in
+    leap-lacking _ _ _ _ _ _ (year-asked (there .before .before)) (there .before .if1 .left) (there .if2 .left) (after .before .before .if3 .taken) (leap-told (c .before) ∙ c .if4 .left)
 
 returns-6 : tie.Need-returns-6
 returns-6 c =
-    let there = c .before .before in
-    regular-found _ _ _ _ _ _ (year-asked (there .before .before)) (there .before .if1 .left) (there .if2 .left) _ (c .if3 .left) (c .before .month-with .ensures)
+    let there = c .before .before .before in
+    regular-found _ _ _ _ _ _ (year-asked (there .before .before)) (there .before .if1 .left) (there .if2 .left) _ (c .if3 .left) (found (c .before))
 
 pub asked-month-spec : {M : Type 1} → statement M
 asked-month-spec =
     tie.close
     (tie.spec
-    asked-year-requires
-    enum-known-asked
-    enum-told
-    year-refusal-requires
+    (λ c κs. search needs)
+    (λ c. search needs)
+    (λ c. search needs)
+    (λ c κs. search needs)
     returns
     returns-2
     returns-3
-    cast-month-with
-    month-with-requires
-    month-after-requires
-    name-of-requires
+    (λ c. search needs)
+    (λ c κs. search needs)
+    (λ c κs. search needs)
+    add-begin
+    (λ c κs. search needs)
+    last-term-of-requires
     returns-4
     returns-5
     returns-6)

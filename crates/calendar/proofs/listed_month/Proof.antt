@@ -1,44 +1,63 @@
--- `calendar::listed_month` meets its contract: the name, the length and the first day are those of the month.
-use mathlib.Core.Path.{_≡_, ap}
+-- `calendar::listed_month` meets its contract: the number, the length and the first day are those of the month.
+use mathlib.Core.Path.{_≡_, ap, sym}
 use Prim.Native.Nat.{_+_}
 use native.Mathlib.Omega.{arith}
 use borrow.Author.Needs.{needs}
 use Rattle.months.specs.Rules.{rulesOf}
-use Rattle.asked.specs.Room.{CoveredSpan}
-use Rattle.asked.proofs.Covered.{SpanDays, span-days}
+use Rattle.months.proofs.Calendars.{steady}
+use Rattle.months.proofs.Terms.{number-of-last}
+use Rattle.asked.specs.Room.{CoveredMonth}
+use Rattle.asked.proofs.Covered.{MonthRoom, month-room}
 use Rattle.calendar.proofs.listed_month.Statement.{statement}
 use Rattle.calendar.proofs.listed_month.Tie as tie
 
-days : (c : tie.Start) → SpanDays (rulesOf (c .args .calendar)) (c .args .span)
-days c =
-    let covered : CoveredSpan (rulesOf (c .args .calendar)) (c .args .span) = search needs in
-    span-days (c .args .calendar) (c .args .span) covered
+room : (c : tie.Start) → MonthRoom (rulesOf (c .args .calendar)) (c .args .month)
+room c =
+    let covered : CoveredMonth (rulesOf (c .args .calendar)) (c .args .month) = search needs in
+    month-room (c .args .calendar) (c .args .month) covered
 
-name-of-requires : tie.Need-name-of-requires
-name-of-requires c κs = days c .fits
+next : (c : tie.Start) → c .args .next ≡ rulesOf (c .args .calendar) .start (c .args .month .month + 1)
+next c = search needs
 
-sub-t4 : tie.Need-sub-t4
-sub-t4 c = omega (arith, days (c .before .before) .at-least)
+last-term-by-requires : tie.Need-last-term-by-requires
+last-term-by-requires c κs = record { starting = room c .fits; next-own = next c }
 
-cast-t5 : tie.Need-cast-t5
-cast-t5 c = omega (arith, days (c .before .before) .at-most)
+sub-t6 : tie.Need-sub-t6
+sub-t6 c = let at = c .before .before .before in omega (arith, next at, room at .at-least)
 
-day-zero-requires : tie.Need-day-zero-requires
-day-zero-requires c κs = search needs
+cast-t7 : tie.Need-cast-t7
+cast-t7 c = let at = c .before .before .before in omega (arith, next at, room at .at-most)
 
-sub-t7 : tie.Need-sub-t7
-sub-t7 c = omega (arith, c .before .day-zero .ensures, days (c .before .before .before .before) .from)
+sub-t9 : tie.Need-sub-t9
+sub-t9 c = omega (arith, c .before .day-zero .ensures, room (c .before .before .before .before .before) .from)
 
-cast-t8 : tie.Need-cast-t8
-cast-t8 c = let d = days (c .before .before .before .before) in omega (arith, c .before .day-zero .ensures, d .to, d .at-least)
+cast-t10 : tie.Need-cast-t10
+cast-t10 c = let r = room (c .before .before .before .before .before) in omega (arith, c .before .day-zero .ensures, r .to, r .at-least)
 
 returns : tie.Need-returns
 returns c =
-    let at = c .before .before .before .before .args in
-    let own = days (c .before .before .before .before) .fits .own in
-    let start : at .span .start ≡ rulesOf (at .calendar) .start (at .span .month) = ap (λ s. s .start) own in
-    let next : at .span .next ≡ rulesOf (at .calendar) .start (at .span .month + 1) = ap (λ s. s .next) own in
-    rw (c .before .before .before .name-of .ensures, c .before .day-zero .ensures, start, next)
+    let start = c .before .before .before .before .before in
+    let at = start .args in
+    let r = rulesOf (at .calendar) in
+    let own : at .month .start ≡ r .start (at .month .month) = ap (λ b. b .start) (room start .fits .own) in
+    rw (
+      c .before .before .before .term-number .ensures,
+      c .before .before .before .before .last-term-by .ensures,
+      number-of-last r (steady (at .calendar)) (at .month .month),
+      c .before .day-zero .ensures,
+      own,
+      next start,
+    )
 
 pub listed-month-spec : {M : Type 1} → statement M
-listed-month-spec = tie.close (tie.spec name-of-requires sub-t4 cast-t5 day-zero-requires sub-t7 cast-t8 returns)
+listed-month-spec =
+    tie.close
+    (tie.spec
+    last-term-by-requires
+    (λ c κs. search needs)
+    sub-t6
+    cast-t7
+    (λ c κs. search needs)
+    sub-t9
+    cast-t10
+    returns)

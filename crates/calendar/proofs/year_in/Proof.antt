@@ -4,7 +4,7 @@ use Prim.Native.Nat.{_+_}
 use native.Mathlib.Omega.{arith}
 use borrow.Author.Needs.{needs}
 use Rattle.months.specs.Rules.{rulesOf}
-use Rattle.months.specs.Months.{spanned, firstMonth}
+use Rattle.months.specs.Months.{begun, firstMonth}
 use Rattle.months.proofs.FirstMonths.{first-with, next-with}
 use Rattle.months.proofs.Calendars.{steady}
 use Rattle.months.proofs.CoveredYears.{after-first, before-last}
@@ -14,27 +14,23 @@ use Rattle.calendar.proofs.Covered.{YearRoom, year-room}
 use Rattle.calendar.proofs.year_in.Statement.{statement}
 use Rattle.calendar.proofs.year_in.Tie as tie
 
-month-with-requires : tie.Need-month-with-requires
-month-with-requires c κs = search needs
-
-month-with-requires-2 : tie.Need-month-with-requires-2
-month-with-requires-2 c κs = search needs
-
 -- the two months that were found, and the room between them
-record Found (c : tie.After-month-with2) : Type 0 where
-  first : c .before .month-with .result ≡ spanned (rulesOf (c .before .before .args .calendar)) (firstMonth (rulesOf (c .before .before .args .calendar)) (c .before .before .args .year))
-  next : c .month-with2 .result ≡ spanned (rulesOf (c .before .before .args .calendar)) (firstMonth (rulesOf (c .before .before .args .calendar)) (c .before .before .args .year + 1))
-  covered : CoveredYear (rulesOf (c .before .before .args .calendar)) (c .before .before .args .year)
-  room : YearRoom (rulesOf (c .before .before .args .calendar)) (c .before .before .args .year)
+record Found (c : tie.After-month-of2) : Type 0 where
+  first : c .before .before .month-of .result ≡ begun (rulesOf (c .before .before .before .before .args .calendar)) (firstMonth (rulesOf (c .before .before .before .before .args .calendar)) (c .before .before .before .before .args .year))
+  next : c .month-of2 .result ≡ begun (rulesOf (c .before .before .before .before .args .calendar)) (firstMonth (rulesOf (c .before .before .before .before .args .calendar)) (c .before .before .before .before .args .year + 1))
+  covered : CoveredYear (rulesOf (c .before .before .before .before .args .calendar)) (c .before .before .before .before .args .year)
+  room : YearRoom (rulesOf (c .before .before .before .before .args .calendar)) (c .before .before .before .before .args .year)
 
-found : (c : tie.After-month-with2) → Found c
+found : (c : tie.After-month-of2) → Found c
 found c =
-    let at = c .before .before .args in
+    let m = c .before .before in
+    let at = m .before .before .args in
     let r = rulesOf (at .calendar) in
+    let s = steady (at .calendar) in
     let covered : CoveredYear r (at .year) = search needs in
     record {
-      first = c .before .month-with .ensures ∙ ap (spanned r) (first-with r (steady (at .calendar)) (at .year));
-      next = c .month-with2 .ensures ∙ ap (spanned r) (next-with r (steady (at .calendar)) (at .year));
+      first = rw (m .before .term-day .ensures) at (m .month-of .ensures) ∙ ap (begun r) (first-with r s (at .year));
+      next = rw (c .before .term-day2 .ensures) at (c .month-of2 .ensures) ∙ ap (begun r) (next-with r s (at .year));
       covered = covered;
       room = year-room (at .calendar) (at .year) covered;
     }
@@ -42,20 +38,18 @@ found c =
 sub-count : tie.Need-sub-count
 sub-count c = let f = found (c .before .before) in rw (f .first, f .next) (omega (arith, f .room .at-least))
 
-cast-list-from : tie.Need-cast-list-from
-cast-list-from c = search needs
-
-list-from-requires : tie.Need-list-from-requires
-list-from-requires c κs =
-    let at = c .before .before .before .before .args in
+list-to-requires : tie.Need-list-to-requires
+list-to-requires c κs =
     let f = found (c .before .before) in
-    let before = before-last (at .calendar) (at .year) (f .covered .to) in
+    let at = c .before .before .before .before .before .before .args in
     rw (f .first, f .next)
     (record {
-      own = refl;
+      first-own = refl;
+      end-own = refl;
       from = after-first (at .calendar) (at .year) (f .covered .from);
-      to = omega (arith, f .room .at-least, before);
-      at-most-13 = omega (arith, f .room .at-most);
+      to = before-last (at .calendar) (at .year) (f .covered .to);
+      some = omega (arith, f .room .at-least);
+      at-most-13 = f .room .at-most;
     })
 
 sub-t9 : tie.Need-sub-t9
@@ -71,17 +65,18 @@ returns : tie.Need-returns
 unfolding yearIn
 returns c =
     let f = found (c .before .before .before .before .before .before) in
-    rw (c .before .before .before .list-from .ensures, f .first, f .next)
+    rw (c .before .before .before .list-to .ensures, f .first, f .next)
 
 pub year-in-spec : {M : Type 1} → statement M
 year-in-spec =
     tie.close
     (tie.spec
-    month-with-requires
-    month-with-requires-2
+    (λ c κs. search needs)
+    (λ c κs. search needs)
+    (λ c κs. search needs)
+    (λ c κs. search needs)
     sub-count
-    cast-list-from
-    list-from-requires
+    list-to-requires
     sub-t9
     cast-t10
     cast-t11

@@ -1,22 +1,23 @@
--- `moon::row_of` meets its contract: each half has its own table.
-use mathlib.Core.Path.{sym, ap, _∙_}
+-- `moon::row_of` meets its contract: the rows of the lower half stand behind those of the upper.
+use mathlib.Core.Path.{_∙_, ap}
+use mathlib.Core.Logic.{⊎-elim}
+use native.Mathlib.Omega.{arith}
 use borrow.Author.Needs.{needs}
-use lib.ListN.{getD}
-use Rattle.moon.specs.Moon.{rows, noRow}
+use Rattle.moon.specs.Room.{signedAt}
+use Rattle.moon.proofs.SignedRows.{upper-at, lower-at}
 use Rattle.moon.proofs.row_of.Statement.{statement}
 use Rattle.moon.proofs.row_of.Tie as tie
 
-upper-row-requires : tie.Need-upper-row-requires
-upper-row-requires c κs = search needs
-
-lower-row-requires : tie.Need-lower-row-requires
-lower-row-requires c κs = search needs
+signed-row-requires : tie.Need-signed-row-requires
+signed-row-requires c κs = ⊎-elim (λ w. omega arith) (λ w. omega arith) (c .if1 .came)
 
 returns : tie.Need-returns
-returns c = c .upper-row .ensures ∙ ap (λ upper. getD (rows upper) (c .before .before .args .day) noRow) (sym (c .before .if1 .taken))
-
-returns-2 : tie.Need-returns-2
-returns-2 c = c .lower-row .ensures ∙ ap (λ upper. getD (rows upper) (c .before .before .args .day) noRow) (sym (c .before .if1 .left))
+returns c =
+    let at = c .before .before in
+    ⊎-elim
+    (λ w. rw (w .0 .taken) (c .signed-row .ensures ∙ ap signedAt (w .1) ∙ upper-at (at .args .day) (at .pre)))
+    (λ w. rw (w .0 .left) (c .signed-row .ensures ∙ ap signedAt (w .1) ∙ lower-at (at .args .day) (at .pre)))
+    (c .before .if1 .came)
 
 pub row-of-spec : {M : Type 1} → statement M
-row-of-spec = tie.close (tie.spec upper-row-requires lower-row-requires returns returns-2)
+row-of-spec = tie.close (tie.spec (λ c. search needs) signed-row-requires returns)

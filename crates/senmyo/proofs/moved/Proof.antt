@@ -2,46 +2,36 @@
 use mathlib.Core.Path.{_≡_}
 use Prim.Native.Nat.{_<_, _^_}
 use native.Mathlib.Omega.{arith}
-use lib.IntN.{pos, _+ℤ_, _*ℤ_}
+use lib.IntN.{pos, _+ℤ_}
 use lib.Signed.{yes-nonNeg, pos-natAbs}
 use mir.Syntax.{w64}
-use mir.Val.{toZ, ofZ}
+use mir.Val.{toZ, ofZ, SFits}
 use mir.Facts.{toZ-ofZ, toZ-pos, fits-natAbs}
 use borrow.Author.Needs.{needs}
-use Rattle.numbers.proofs.Size.{Small, small-pos, Line, line}
+use Rattle.numbers.proofs.Size.{Small, small-pos, small-add, small-fits}
 use Rattle.senmyo.proofs.moved.Statement.{statement}
 use Rattle.senmyo.proofs.moved.Tie as tie
 
-sum : (c : tie.After-struct-known) → Line (pos (c .before .args .moment .0)) (c .before .args .correction) 8
-sum c =
-    let few : Small (c .before .args .correction) 10000 = record { size = c .before .pre .correction-small } in
-    line 8 8 (omega arith) (small-pos (c .before .args .moment .0)) few (omega arith)
+sum-fits : (c : tie.Start) → SFits w64 (pos (c .args .count) +ℤ c .args .by)
+sum-fits c =
+    let few : Small (c .args .by) 100000 = record { size = c .pre .by-small } in
+    small-fits (small-add (small-pos (c .args .count)) few) (omega arith)
 
 -- what the code adds up, read back
-back : (c : tie.After-struct-known) → toZ w64 (ofZ w64 (toZ w64 (c .before .args .moment .0) +ℤ toZ w64 (ofZ w64 (toZ w64 (ofZ w64 (c .before .args .correction)) *ℤ pos 8)))) ≡ pos (c .before .args .moment .0) +ℤ c .before .args .correction *ℤ pos 8
-back c =
-    let small : c .before .args .moment .0 < 2 ^ 63 = omega arith in
-    rw (toZ-ofZ (c .before .fits .correction), toZ-pos w64 small, toZ-ofZ (sum c .product), toZ-ofZ (sum c .total))
+read : (c : tie.Start) → toZ w64 (c .args .count) +ℤ toZ w64 (ofZ w64 (c .args .by)) ≡ pos (c .args .count) +ℤ c .args .by
+read c =
+    let small : c .args .count < 2 ^ 63 = omega arith in
+    rw (toZ-pos w64 small, toZ-ofZ (c .fits .by))
 
-cast-t3 : tie.Need-cast-t3
-cast-t3 c = search needs
+add-result : tie.Need-add-result
+add-result c = rw (read c) (sum-fits c)
 
-cast-t4 : tie.Need-cast-t4
-cast-t4 c = search needs
-
-mul-t5 : tie.Need-mul-t5
-mul-t5 c = rw (toZ-ofZ (c .before .fits .correction)) (sum c .product)
-
-add-t6 : tie.Need-add-t6
-add-t6 c =
-    let small : c .before .args .moment .0 < 2 ^ 63 = omega arith in
-    rw (toZ-ofZ (c .before .fits .correction), toZ-pos w64 small, toZ-ofZ (sum c .product)) (sum c .total)
-
-cast-t7 : tie.Need-cast-t7
-cast-t7 c = rw (back c) (yes-nonNeg (c .before .pre .after-start), fits-natAbs tt (sum c .total))
+cast-result-2 : tie.Need-cast-result-2
+cast-result-2 c =
+    rw (read c, toZ-ofZ (sum-fits c)) (yes-nonNeg (c .pre .after-start), fits-natAbs tt (sum-fits c))
 
 returns : tie.Need-returns
-returns c = rw (back c) (pos-natAbs _ (yes-nonNeg (c .before .pre .after-start)))
+returns c = rw (read c, toZ-ofZ (sum-fits c)) (pos-natAbs _ (yes-nonNeg (c .pre .after-start)))
 
 pub moved-spec : {M : Type 1} → statement M
-moved-spec = tie.close (tie.spec cast-t3 cast-t4 mul-t5 add-t6 cast-t7 returns)
+moved-spec = tie.close (tie.spec (λ c. search needs) add-result cast-result-2 returns)

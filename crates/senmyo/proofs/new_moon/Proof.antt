@@ -1,35 +1,49 @@
--- `senmyo::new_moon` meets its contract: a mean new moon is of whole fen, and so it is when it is corrected.
-use mathlib.Core.Path.{_∙_}
+-- `senmyo::new_moon` meets its contract: the mean new moon, corrected, is a natural.
+use mathlib.Core.Path.{_≡_, ap}
 use native.Mathlib.Omega.{arith}
+use mir.Syntax.{w64}
+use mir.Val.{toZ, ofZ}
+use mir.Facts.{toZ-ofZ}
 use borrow.Author.Needs.{needs}
-use Rattle.senmyo.proofs.PhaseLaws.{new-moon-told}
+use Rattle.numbers.specs.Sign.{whole}
+use Rattle.numbers.proofs.Size.{small-fits}
+use Rattle.units.specs.Units.{fen, fenToByo}
+use Rattle.means.specs.Means.{meanNewMoon}
+use Rattle.senmyo.specs.Phases.{corrections, newMoon}
+use Rattle.senmyo.proofs.PhaseLaws.{corrections-small, new-moon-after-start}
 use Rattle.senmyo.proofs.new_moon.Statement.{statement}
 use Rattle.senmyo.proofs.new_moon.Tie as tie
-
-mean-new-moon-requires : tie.Need-mean-new-moon-requires
-mean-new-moon-requires c κs = search needs
 
 fen-to-byo-requires : tie.Need-fen-to-byo-requires
 fen-to-byo-requires c κs = rw (c .mean-new-moon .ensures) (omega arith)
 
-corrected-requires : tie.Need-corrected-requires
-corrected-requires c κs = rw (c .fen-to-byo .ensures, c .before .mean-new-moon .ensures) (omega arith)
+correction-requires : tie.Need-correction-requires
+correction-requires c κs = rw (c .fen-to-byo .ensures, c .before .mean-new-moon .ensures) (omega arith)
 
-byo-to-fen-requires : tie.Need-byo-to-fen-requires
-byo-to-fen-requires c κs = search needs
+-- the correction is read back from its word as it is
+back : (c : tie.After-correction) → toZ w64 (ofZ w64 (c .correction .result)) ≡ corrections (fenToByo (meanNewMoon (c .before .before .before .args .number)))
+back c = rw (c .correction .ensures, c .before .fen-to-byo .ensures, c .before .before .mean-new-moon .ensures) (toZ-ofZ (small-fits (corrections-small _) (omega arith)))
+
+moved-requires : tie.Need-moved-requires
+moved-requires c κs =
+    let k = c .before .before .before .args .number in
+    rw (back c, c .before .before .mean-new-moon .ensures)
+    (record {
+      count-small = omega arith;
+      by-small = omega (arith, corrections-small (fenToByo (meanNewMoon k)) .size);
+      after-start = new-moon-after-start k;
+    })
 
 returns : tie.Need-returns
-returns c =
-    let b = c .before .before in
-    let true-byo = rw (b .fen-to-byo .ensures, b .before .mean-new-moon .ensures) at (c .before .corrected .ensures) in
-    c .byo-to-fen .ensures ∙ new-moon-told _ _ true-byo
+unfolding newMoon
+returns c = ap fen (ap whole (rw (back (c .before), c .before .before .before .mean-new-moon .ensures) at (c .moved .ensures)))
 
 pub new-moon-spec : {M : Type 1} → statement M
 new-moon-spec =
     tie.close
     (tie.spec
-    mean-new-moon-requires
+    (λ c κs. search needs)
     fen-to-byo-requires
-    corrected-requires
-    byo-to-fen-requires
+    correction-requires
+    moved-requires
     returns)
