@@ -1,25 +1,25 @@
 -- What is asked for and found is covered, and a covered month fits its words.
 use mathlib.Core.Path.{_≡_, refl, ap, subst}
-use mathlib.Core.Bool.{Bool, true, false, and-eq-true-iff}
-use Prim.Native.Nat.{ℕ, _+_, _<_, _≤_, _^_}
+use mathlib.Core.Bool.{Bool, true, and-eq-true-iff}
+use Prim.Native.Nat.{ℕ, _+_, _≤_, _^_}
 use native.Mathlib.Omega.{arith}
 use lib.Dec.{leb}
 use borrow.Author.Tests.{leb-true}
 use Rattle.numbers.specs.Answer.{given}
-use Rattle.numbers.proofs.Answers.{one-given}
+use Rattle.numbers.proofs.Answers.{one-given, gives}
 use Rattle.months.specs.declared.Calendar.{Calendar}
 use Rattle.months.specs.declared.Begun.{Begun}
 use Rattle.months.specs.Rules.{Rules, rulesOf}
-use Rattle.months.specs.Months.{begun}
+use Rattle.months.specs.Months.{begun, monthLength}
 use Rattle.months.specs.Year.{MonthDays, OfYear}
 use Rattle.months.specs.Room.{Covering, Starting}
 use Rattle.months.proofs.Calendars.{steady}
-use Rattle.months.proofs.CoveredYears.{covered-year, days-to-next, edges, its-days, starts-covered, ends-covered, covering}
-use Rattle.asked.specs.Room.{CoveredYear, CoveredMonth}
-use Rattle.asked.proofs.Steps.{in-time, regular-there}
-use Rattle.asked.proofs.Given.{asked-given, month-given}
-use Rattle.asked.proofs.Names.{Named, named}
-use Rattle.asked.specs.Asked.{numbered, rulesFor, isCovered, regularMonth, hasMonth, monthNamed, yearAsked, monthAsked}
+use Rattle.months.proofs.CoveredYears.{covered-year, edges, its-days, starts-covered, ends-covered, covering}
+use Rattle.asked.specs.Room.{inYear, CoveredYear, CoveredMonth}
+use Rattle.asked.proofs.Steps.{in-time}
+use Rattle.asked.proofs.Given.{asked-given, moon-given, month-given}
+use Rattle.asked.proofs.Names.{Named, named, NextTerm, next-term}
+use Rattle.asked.specs.Asked.{numbered, rulesFor, isCovered, hasMonth, monthNamed, yearAsked, moonAsked, monthAsked}
 
 pub covered-year-told : (r : Rules) (y : ℕ) → isCovered r y ≡ true → CoveredYear r y
 covered-year-told r y h =
@@ -44,17 +44,16 @@ module _ (c : Calendar) (y : ℕ) (covered : CoveredYear (rulesOf c) y) where
   pub month-covering : (k : ℕ) → OfYear (rulesOf c) y k → Covering (rulesOf c) k
   month-covering k h = covering c y k (covered .from) (covered .to) h
 
-  -- .. so that it and the month after are small
-  pub regular-small : (m : ℕ) → 1 ≤ m → m ≤ 12 → regularMonth (rulesOf c) y m + 1 < 2 ^ 27
-  regular-small m low high =
-      let covers = month-covering (regularMonth (rulesOf c) y m) (name-found m false (regular-there (rulesOf c) y m low high) .of-year) in
-      omega (arith, covers .to, edges c .last-month)
+  pub next-found : (m : ℕ) → 1 ≤ m → m ≤ 12 → NextTerm (rulesOf c) y m
+  next-found m low high = next-term (rulesOf c) (steady c) y (covered-year c y (covered .from) (covered .to) .months) m low high
 
-  -- .. and the month after has 29 or 30 days, as all do
-  pub after-days : (m : ℕ) → 1 ≤ m → m ≤ 12 → MonthDays (rulesOf c) (regularMonth (rulesOf c) y m + 1)
-  after-days m low high =
-      let covers = month-covering (regularMonth (rulesOf c) y m) (name-found m false (regular-there (rulesOf c) y m low high) .of-year) in
-      days-to-next c (regularMonth (rulesOf c) y m + 1) (omega (arith, covers .from)) (omega (arith, covers .to))
+  pub named-covered : (m : ℕ) (leap : Bool) (a : Calendar × Begun) → inYear begun c y m leap ≡ given a → CoveredMonth (rulesOf c) (a .1)
+  named-covered m leap a e =
+      let r = rulesOf c in
+      let k = monthNamed r y m leap in
+      let (has, same) = gives 3 (given (c, begun r k)) (hasMonth r y m leap) a .only-if e in
+      subst (λ (a : Calendar × Begun). CoveredMonth r (a .1)) (one-given (c, begun r k) a same)
+      (record { own = refl; covering = month-covering k (name-found m leap has .of-year) })
 
 -- the days of a covered month
 pub record MonthRoom (r : Rules) (b : Begun) : Type 0 where
@@ -81,12 +80,35 @@ month-room c b h =
       fits = record { own = h .own; small = omega (arith, covers .to, edges c .last-month) };
     }
 
--- a month that is asked for and found is covered
-pub asked-month-covered : (c y m : ℕ) (leap : Bool) (k : Calendar) (b : Begun) → monthAsked c y m leap ≡ given (k, b) → CoveredMonth (rulesOf k) b
-asked-month-covered c y m leap k b e =
-    let r = rulesFor c in
-    let g = month-given c y m leap (k, b) .only-if e in
-    let covered = covered-year-told r y (g .1 .0) in
-    let covers = month-covering (numbered c) y covered (monthNamed r y m leap) (name-found (numbered c) y covered m leap (g .1 .1 .0) .of-year) in
-    subst (λ (a : Calendar × Begun). CoveredMonth (rulesOf (a .0)) (a .1)) (one-given (numbered c, begun r (monthNamed r y m leap)) (k, b) (g .1 .1 .1))
-    (record { own = refl; covering = covers })
+-- ---- the month that is asked for and found
+
+module _ (c y m : ℕ) (leap : Bool) where
+  abbrev its-rules : Rules
+  its-rules = rulesFor c
+
+  abbrev its-month : ℕ
+  its-month = monthNamed its-rules y m leap
+
+  its-covering : isCovered its-rules y ≡ true → hasMonth its-rules y m leap ≡ true → Covering its-rules its-month
+  its-covering in-time has =
+      let covered = covered-year-told its-rules y in-time in
+      month-covering (numbered c) y covered its-month (name-found (numbered c) y covered m leap has .of-year)
+
+  pub asked-moon-covered : (a : Calendar × ℕ) → moonAsked c y m leap ≡ given a → Covering (rulesOf (a .0)) (a .1)
+  asked-moon-covered a e =
+      let g = moon-given c y m leap a .only-if e in
+      subst (λ (a : Calendar × ℕ). Covering (rulesOf (a .0)) (a .1)) (one-given (numbered c, its-month) a (g .1 .1 .1)) (its-covering (g .1 .0) (g .1 .1 .0))
+
+  module _ (d : ℕ) (a : Calendar × Begun) (e : monthAsked c y m leap d ≡ given a) where
+    pub asked-month-covered : CoveredMonth (rulesOf (a .0)) (a .1)
+    asked-month-covered =
+        let g = month-given c y m leap d a .only-if e in
+        subst (λ (a : Calendar × Begun). CoveredMonth (rulesOf (a .0)) (a .1)) (one-given (numbered c, begun its-rules its-month) a (g .1 .1 .1 .1))
+        (record { own = refl; covering = its-covering (g .1 .0) (g .1 .1 .0) })
+
+    -- the day is one of 1 to 30
+    pub asked-day : (1 ≤ d) × (d ≤ 30)
+    asked-day =
+        let g = month-given c y m leap d a .only-if e in
+        let (low, high) = and-eq-true-iff (leb 1 d) (leb d (monthLength its-rules its-month)) .0 (g .1 .1 .1 .0) in
+        (leb-true _ _ low, omega (arith, leb-true d _ high, its-days (numbered c) its-month (its-covering (g .1 .0) (g .1 .1 .0)) .at-most))

@@ -7,7 +7,7 @@ use Rattle.numbers.proofs.Answers.{Exactly, after, gives}
 use Rattle.months.specs.declared.Calendar.{Calendar}
 use Rattle.months.specs.declared.Begun.{Begun}
 use Rattle.months.specs.Months.{begun}
-use Rattle.asked.specs.Asked.{isCalendar, numbered, rulesFor, isCovered, hasMonth, monthNamed, yearAsked, monthAsked}
+use Rattle.asked.specs.Asked.{isCalendar, numbered, rulesFor, isCovered, hasMonth, monthNamed, hasDay, yearAsked, moonAsked, monthAsked}
 
 -- ---- a year that is asked for
 
@@ -15,8 +15,14 @@ pub asked-given : (c y : ℕ) (a : Calendar × ℕ) → Exactly (yearAsked c y �
 unfolding yearAsked
 asked-given c y a = after (gives 1 _ _ a) (gives 2 _ _ a)
 
--- ---- a month that is asked for
+-- ---- the month whose moons are asked for
 
-pub month-given : (c y m : ℕ) (leap : Bool) (a : Calendar × Begun) → Exactly (monthAsked c y m leap ≡ given a) ((isCalendar c ≡ true) × ((isCovered (rulesFor c) y ≡ true) × ((hasMonth (rulesFor c) y m leap ≡ true) × (given (numbered c, begun (rulesFor c) (monthNamed (rulesFor c) y m leap)) ≡ given a))))
+pub moon-given : (c y m : ℕ) (leap : Bool) (a : Calendar × ℕ) → Exactly (moonAsked c y m leap ≡ given a) ((isCalendar c ≡ true) × ((isCovered (rulesFor c) y ≡ true) × ((hasMonth (rulesFor c) y m leap ≡ true) × (given (numbered c, monthNamed (rulesFor c) y m leap) ≡ given a))))
+unfolding moonAsked
+moon-given c y m leap a = after (gives 1 _ _ a) (after (gives 2 _ _ a) (gives 3 _ _ a))
+
+-- ---- the month of a date
+
+pub month-given : (c y m : ℕ) (leap : Bool) (d : ℕ) (a : Calendar × Begun) → Exactly (monthAsked c y m leap d ≡ given a) ((isCalendar c ≡ true) × ((isCovered (rulesFor c) y ≡ true) × ((hasMonth (rulesFor c) y m leap ≡ true) × ((hasDay (rulesFor c) (monthNamed (rulesFor c) y m leap) d ≡ true) × (given (numbered c, begun (rulesFor c) (monthNamed (rulesFor c) y m leap)) ≡ given a)))))
 unfolding monthAsked
-month-given c y m leap a = after (gives 1 _ _ a) (after (gives 2 _ _ a) (gives 3 _ _ a))
+month-given c y m leap d a = after (gives 1 _ _ a) (after (gives 2 _ _ a) (after (gives 3 _ _ a) (gives 4 _ _ a)))

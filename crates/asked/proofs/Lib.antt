@@ -2,5 +2,6 @@ pub mod Steps
 pub mod Given
 pub mod Names
 pub mod Covered
+pub mod LeapMonths
 pub mod OneAnswer
 pub mod Numbers

@@ -5,13 +5,13 @@ use Prim.Native.Nat.{ℕ, _+_, _-_, _<_, _≤_}
 use native.Mathlib.Omega.{arith}
 use lib.Dec.{leb, ltb}
 use borrow.Author.Tests.{le-leb, leb-true, ltb-true, ltb-false}
-use Rattle.numbers.proofs.Spans.{span-is}
+use Rattle.numbers.proofs.Spans.{span-holds, span-is}
 use Rattle.months.specs.Rules.{Rules}
 use Rattle.months.specs.Months.{monthWith, firstMonth, isLeap, numberOf}
-use Rattle.months.specs.Year.{OfYear, Numbered, Thirteen, TwelveOrThirteen, twelve, thirteen}
+use Rattle.months.specs.Year.{OfYear, Numbered, Twelve, Thirteen, TwelveOrThirteen, twelve, thirteen}
 use Rattle.months.proofs.Steady.{Steady}
-use Rattle.months.proofs.FirstMonths.{month-1-not-leap}
-use Rattle.months.proofs.Terms.{number-of-leap, number-of-last}
+use Rattle.months.proofs.FirstMonths.{next-with, month-1-not-leap}
+use Rattle.months.proofs.Terms.{has-not-leap, number-of-leap, number-of-last}
 use Rattle.asked.specs.Asked.{regularMonth, monthNamed, hasMonth}
 
 -- month k of year y has this number, and is leap or not
@@ -19,6 +19,11 @@ pub record Named (r : Rules) (y m : ℕ) (leap : Bool) (k : ℕ) : Type 0 where
   pub of-year : OfYear r y k
   pub number : numberOf r k ≡ m
   pub is-leap : isLeap r k ≡ leap
+
+-- the month that has the next mid-term follows month m of year y at once, or its leap month
+pub data NextTerm (r : Rules) (y m : ℕ) : Type 0 where
+  at-once : monthWith r (r .rainWater y + m) ≡ regularMonth r y m + 1 → isLeap r (regularMonth r y m + 1) ≡ false → NextTerm r y m
+  after-leap : monthWith r (r .rainWater y + m) ≡ regularMonth r y m + 2 → isLeap r (regularMonth r y m + 1) ≡ true → NextTerm r y m
 
 -- month k is the one that its name names in year y
 pub record NamedBack (r : Rules) (y k : ℕ) : Type 0 where
@@ -74,6 +79,49 @@ module _ (r : Rules) (s : Steady r) (y : ℕ) where
         by-leap : (b : Bool) → Named r y m false (regularMonth r y m) → elim b [ true ↦ isLeap r (regularMonth r y m + 1) | false ↦ true ] ≡ true → Named r y m b (monthNamed r y m b)
         by-leap true n e = leap-named m (regularMonth r y m) n e
         by-leap false n e = n
+
+  -- ---- where the months stand that have a year's mid-terms, and the first of the next year's
+
+  last-place : (n : ℕ) → firstMonth r (y + 1) ≡ n → (i : ℕ) → i ≡ 12 → monthWith r (r .rainWater y + i) ≡ n
+  last-place n e i last = rw last (next-with r s y ∙ e)
+
+  twelve-place : (t : Twelve r y) (i : ℕ) → i ≤ 12 → monthWith r (r .rainWater y + i) ≡ firstMonth r y + i
+  twelve-place t i h = by-end (ltb i 12) refl
+    where
+      by-end : (b : Bool) → ltb i 12 ≡ b → monthWith r (r .rainWater y + i) ≡ firstMonth r y + i
+      by-end true e = with-term i (firstMonth r y + i) (t .each i (ltb-true i 12 e))
+      by-end false e = let last : i ≡ 12 = omega (arith, h, ltb-false i 12 e) in last-place (firstMonth r y + i) (omega (arith, t .count, last)) i last
+
+  place-before : (t : Thirteen r y) (i : ℕ) → i < t .leapNumber → monthWith r (r .rainWater y + i) ≡ firstMonth r y + i
+  place-before t i h = with-term i (firstMonth r y + i) (t .before i h)
+
+  place-after : (t : Thirteen r y) (i : ℕ) → t .leapNumber ≤ i → i ≤ 12 → monthWith r (r .rainWater y + i) ≡ firstMonth r y + i + 1
+  place-after t i low h = by-end (ltb i 12) refl
+    where
+      by-end : (b : Bool) → ltb i 12 ≡ b → monthWith r (r .rainWater y + i) ≡ firstMonth r y + i + 1
+      by-end true e = with-term i (firstMonth r y + i + 1) (t .after i low (ltb-true i 12 e))
+      by-end false e = let last : i ≡ 12 = omega (arith, h, ltb-false i 12 e) in last-place (firstMonth r y + i + 1) (omega (arith, t .count, last)) i last
+
+  -- a month that has a mid-term is not leap
+  next-at-once : (m : ℕ) → monthWith r (r .rainWater y + m) ≡ regularMonth r y m + 1 → NextTerm r y m
+  next-at-once m e = at-once e (rw e at (has-not-leap r s (monthWith r (r .rainWater y + m)) (r .rainWater y + m) (span-holds (r .start) (s .months-grow) _)))
+
+  pub next-term : TwelveOrThirteen r y → (m : ℕ) → 1 ≤ m → m ≤ 12 → NextTerm r y m
+  next-term (twelve t) m low high = next-at-once m (omega (arith, low, twelve-place t (m - 1) (omega (arith, high)), twelve-place t m high))
+  next-term (thirteen t) m low high = by-place (ltb m (t .leapNumber)) (ltb (t .leapNumber) m) refl refl
+    where
+      by-place : (b c : Bool) → ltb m (t .leapNumber) ≡ b → ltb (t .leapNumber) m ≡ c → NextTerm r y m
+      by-place true c e d =
+          let before = ltb-true m (t .leapNumber) e in
+          next-at-once m (omega (arith, low, place-before t (m - 1) (omega (arith, before)), place-before t m before))
+      by-place false true e d =
+          let behind = ltb-true (t .leapNumber) m d in
+          next-at-once m (omega (arith, low, place-after t (m - 1) (omega (arith, behind)) (omega (arith, high)), place-after t m (omega (arith, behind)) high))
+      by-place false false e d =
+          let same : t .leapNumber ≡ m = omega (arith, ltb-false m (t .leapNumber) e, ltb-false (t .leapNumber) m d) in
+          let regular = place-before t (m - 1) (omega (arith, low, same)) in
+          let leap : firstMonth r y + t .leapNumber ≡ regularMonth r y m + 1 = omega (arith, low, same, regular) in
+          after-leap (omega (arith, low, regular, place-after t m (omega (arith, same)) high)) (rw leap at (t .leap .leap))
 
   regular-back : (i k : ℕ) → i < 12 → Numbered r y i k → NamedBack r y k
   regular-back i k h n =

@@ -1,4 +1,4 @@
--- What a call asks for: a calendar, a year, a month, each with the refusals up to it (01, "Refusal numbers").
+-- What a call asks for: a calendar, a year, a month, the month of a date, each with the refusals up to it (01, "Refusal numbers").
 use mathlib.Core.Bool.{Bool, true, false, _&&_, _||_}
 use Prim.Native.Nat.{ℕ, _+_, _-_}
 use lib.Dec.{eqb, leb}
@@ -7,7 +7,7 @@ use Rattle.months.specs.declared.Calendar.{Calendar}
 use Rattle.months.specs.declared.Calendar.the-variants.{Senmyo, Genka}
 use Rattle.months.specs.declared.Begun.{Begun}
 use Rattle.months.specs.Rules.{Rules, rulesOf}
-use Rattle.months.specs.Months.{monthWith, begun, isLeap}
+use Rattle.months.specs.Months.{monthWith, begun, monthLength, isLeap}
 
 -- two calendars by number: 1 Senmyo, 2 Genka
 abbrev pub isCalendar : ℕ → Bool
@@ -36,6 +36,10 @@ monthNamed r y m leap = elim leap [ true ↦ regularMonth r y m + 1 | false ↦ 
 abbrev pub hasMonth : Rules → ℕ → ℕ → Bool → Bool
 hasMonth r y m leap = (leb 1 m && leb m 12) && elim leap [ true ↦ isLeap r (regularMonth r y m + 1) | false ↦ true ]
 
+-- the month has that day; else refusal 4: "day 0 or past the month"
+abbrev pub hasDay : Rules → ℕ → ℕ → Bool
+hasDay r k d = leb 1 d && leb d (monthLength r k)
+
 -- the calendar that is asked for, or the refusal
 abbrev pub calendarOf : ℕ → Answer Calendar
 calendarOf c = need (isCalendar c) 1 (given (numbered c))
@@ -44,8 +48,15 @@ calendarOf c = need (isCalendar c) 1 (given (numbered c))
 unfoldable pub yearAsked : ℕ → ℕ → Answer (Calendar × ℕ)
 yearAsked c y = need (isCalendar c) 1 (need (isCovered (rulesFor c) y) 2 (given (numbered c, y)))
 
--- .. and the month, with its days
-unfoldable pub monthAsked : ℕ → ℕ → ℕ → Bool → Answer (Calendar × Begun)
-monthAsked c y m leap =
+-- .. and the month whose moons are asked for, by the number of its new moon
+unfoldable pub moonAsked : ℕ → ℕ → ℕ → Bool → Answer (Calendar × ℕ)
+moonAsked c y m leap =
     let r : Rules = rulesFor c in
-    need (isCalendar c) 1 (need (isCovered r y) 2 (need (hasMonth r y m leap) 3 (given (numbered c, begun r (monthNamed r y m leap)))))
+    need (isCalendar c) 1 (need (isCovered r y) 2 (need (hasMonth r y m leap) 3 (given (numbered c, monthNamed r y m leap))))
+
+-- .. and the month of a date, with its first day
+unfoldable pub monthAsked : ℕ → ℕ → ℕ → Bool → ℕ → Answer (Calendar × Begun)
+monthAsked c y m leap d =
+    let r : Rules = rulesFor c in
+    let k : ℕ = monthNamed r y m leap in
+    need (isCalendar c) 1 (need (isCovered r y) 2 (need (hasMonth r y m leap) 3 (need (hasDay r k d) 4 (given (numbered c, begun r k)))))

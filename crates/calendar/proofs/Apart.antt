@@ -9,11 +9,11 @@ use Rattle.months.specs.declared.Calendar.{Calendar}
 use Rattle.months.specs.declared.Calendar.the-variants.{Senmyo, Genka}
 use Rattle.months.specs.Rules.{rulesOf}
 use Rattle.months.proofs.Figures.{senmyo-opens, genka-opens}
-use Rattle.asked.specs.Asked.{isCalendar, numbered, rulesFor, isCovered, hasMonth, monthNamed}
+use Rattle.asked.specs.Asked.{isCalendar, numbered, rulesFor, isCovered, hasMonth, monthNamed, hasDay}
 use Rattle.asked.specs.Room.{CoveredYear}
 use Rattle.asked.proofs.Covered.{covered-year-told}
 use Rattle.calendar.specs.declared.Date.{Date}
-use Rattle.calendar.specs.Dates.{hasDay, dayOf, isCoveredDay, dateOf}
+use Rattle.calendar.specs.Dates.{dayOf, isCoveredDay, dateOf}
 use Rattle.calendar.specs.Room.{CoveredDay}
 use Rattle.calendar.proofs.Covered.{covered-day-told}
 use Rattle.calendar.proofs.Refusals.{day-given, date-given}

@@ -9,7 +9,7 @@ use Rattle.numbers.specs.Answer.{given, refused}
 use Rattle.numbers.specs.Spans.{Holds}
 use Rattle.numbers.specs.Places.{places}
 use Rattle.months.specs.Rules.{Rules, senmyo, genka, rulesOf, dayNumber}
-use Rattle.months.specs.Months.{termNumber, isLeap}
+use Rattle.months.specs.Months.{monthLength, termNumber, isLeap}
 use Rattle.months.proofs.Steady.{Steady}
 use Rattle.months.proofs.Terms.{name-told}
 use Rattle.months.proofs.Calendars.{senmyo-steady, genka-steady}
@@ -18,7 +18,7 @@ use Rattle.means.specs.Means.{midTerm}
 use Rattle.senmyo.proofs.Worked.{dayAt}
 use Rattle.units.specs.Units.{dayByo}
 use Rattle.calendar.specs.declared.Month.{Month}
-use Rattle.calendar.specs.Dates.{monthLength, dayOf, dateOf, cycle}
+use Rattle.calendar.specs.Dates.{dayOf, dateOf, cycle}
 use Rattle.calendar.specs.Years.{listed, noMonth, leapNumber, yearIn, yearOf}
 use Rattle.calendar.proofs.OneDate.{date-of-day-of}
 

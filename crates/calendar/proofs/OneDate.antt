@@ -10,16 +10,16 @@ use Rattle.numbers.proofs.Answers.{Exactly, one-given}
 use Rattle.numbers.proofs.Spans.{span-holds, span-is}
 use Rattle.months.specs.declared.Calendar.{Calendar}
 use Rattle.months.specs.Rules.{rulesOf}
-use Rattle.months.specs.Months.{monthOf, yearWith}
+use Rattle.months.specs.Months.{monthOf, monthLength, yearWith}
 use Rattle.months.proofs.FirstMonths.{year-holds, year-is, year-from, year-to}
 use Rattle.months.proofs.Calendars.{steady}
 use Rattle.months.proofs.CoveredYears.{edges, its-year, starts-covered, ends-covered, covering-day}
-use Rattle.asked.specs.Asked.{isCalendar, numbered, rulesFor, isCovered, hasMonth, monthNamed}
+use Rattle.asked.specs.Asked.{isCalendar, numbered, rulesFor, isCovered, hasMonth, monthNamed, hasDay}
 use Rattle.asked.specs.Room.{CoveredYear}
 use Rattle.asked.proofs.Names.{named-back}
 use Rattle.asked.proofs.Covered.{covered-year-told, covered-year-tested, name-found, month-covering}
 use Rattle.calendar.specs.declared.Date.{Date}
-use Rattle.calendar.specs.Dates.{monthLength, hasDay, dayIn, dayOf, isCoveredDay, dateIn, dateOf}
+use Rattle.calendar.specs.Dates.{dayIn, dayOf, isCoveredDay, dateIn, dateOf}
 use Rattle.calendar.specs.Room.{CoveredDay}
 use Rattle.calendar.proofs.Refusals.{day-given, date-given}
 use Rattle.calendar.proofs.Covered.{covered-day-told, covered-day-tested}

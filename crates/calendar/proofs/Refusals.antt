@@ -7,11 +7,11 @@ use lib.ListN.{length}
 use Rattle.numbers.specs.Answer.{Answer, given, refused, need, refusalIn}
 use Rattle.numbers.proofs.Answers.{Exactly, after, gives, refuses, passes, never, not-refused, one-given, struct-refused, struct-given}
 use Rattle.numbers.proofs.Places.{length-places}
-use Rattle.asked.specs.Asked.{isCalendar, rulesFor, isCovered, hasMonth, monthNamed}
+use Rattle.asked.specs.Asked.{isCalendar, rulesFor, isCovered, hasMonth, monthNamed, hasDay}
 use Rattle.calendar.specs.declared.Date.{Date}
 use Rattle.calendar.specs.declared.Year.{Year}
 use Rattle.calendar.specs.declared.YearAnswer.{YearAnswer}
-use Rattle.calendar.specs.Dates.{hasDay, dayIn, dayOf, isCoveredDay, dateIn, dateOf}
+use Rattle.calendar.specs.Dates.{dayIn, dayOf, isCoveredDay, dateIn, dateOf}
 use Rattle.calendar.specs.Years.{listed, noMonth, yearIn, yearOf}
 use Rattle.calendar.specs.Answers.{yearAnswer}
 

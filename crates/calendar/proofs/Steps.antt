@@ -1,6 +1,6 @@
 -- The calls' definitions, step by step as the code takes them.
 use mathlib.Core.Path.{_≡_, sym, ap, _∙_}
-use mathlib.Core.Bool.{Bool, true, false}
+use mathlib.Core.Bool.{Bool}
 use Prim.Native.Nat.{ℕ, _+_, _-_, _<_, _≤_}
 use borrow.Author.Tests.{le-leb, lt-leb, lt-ltb, le-ltb}
 use Rattle.numbers.specs.Answer.{Answer, given, refused, need, then}
@@ -9,40 +9,33 @@ use Rattle.months.specs.declared.Calendar.{Calendar}
 use Rattle.months.specs.declared.Begun.{Begun}
 use Rattle.months.specs.Rules.{Rules, rulesOf, dayNumber}
 use Rattle.months.specs.Months.{begun}
-use Rattle.asked.specs.Asked.{isCalendar, numbered, rulesFor, isCovered, monthNamed, hasMonth, calendarOf, yearAsked, monthAsked}
+use Rattle.asked.specs.Asked.{isCalendar, numbered, rulesFor, isCovered, monthNamed, hasMonth, hasDay, calendarOf, yearAsked, monthAsked}
 use Rattle.calendar.specs.declared.Date.{Date}
 use Rattle.calendar.specs.declared.Year.{Year}
-use Rattle.calendar.specs.Dates.{hasDay, dayOf, coveredDays, isCoveredDay, dateIn, dateOf}
+use Rattle.calendar.specs.Dates.{dayOf, coveredDays, isCoveredDay, dateIn, dateOf}
 use Rattle.calendar.specs.Years.{yearIn, yearOf}
 
 -- ---- the day
 
 module _ (c y m : ℕ) (leap : Bool) (d : ℕ) where
-  abbrev within : Calendar → Begun → Answer ℕ
-  within k b = need (hasDay (rulesOf k) (b .month) d) 4 (given (dayNumber (rulesOf k) (b .start + d - 1)))
+  abbrev on-date : Calendar × Begun → Answer ℕ
+  on-date a = given (dayNumber (rulesOf (a .0)) (a .1 .start + d - 1))
 
-  day-asked : dayOf c y m leap d ≡ then (monthAsked c y m leap) (λ a. within (a .0) (a .1))
+  day-asked : dayOf c y m leap d ≡ then (monthAsked c y m leap d) on-date
   unfolding dayOf monthAsked
   day-asked =
       let r : Rules = rulesFor c in
-      let a : Answer (Calendar × Begun) = given (numbered c, begun r (monthNamed r y m leap)) in
-      let step : Calendar × Begun → Answer ℕ = λ a. within (a .0) (a .1) in
+      let k : ℕ = monthNamed r y m leap in
+      let a : Answer (Calendar × Begun) = given (numbered c, begun r k) in
       sym
-      (then-need (isCalendar c) 1 (need (isCovered r y) 2 (need (hasMonth r y m leap) 3 a)) step
-      ∙ ap (need (isCalendar c) 1) (then-need (isCovered r y) 2 (need (hasMonth r y m leap) 3 a) step ∙ ap (need (isCovered r y) 2) (then-need (hasMonth r y m leap) 3 a step)))
+      (then-needs (isCalendar c) (isCovered r y) 1 2 (need (hasMonth r y m leap) 3 (need (hasDay r k d) 4 a)) on-date
+      ∙ ap (λ a. need (isCalendar c) 1 (need (isCovered r y) 2 a)) (then-needs (hasMonth r y m leap) (hasDay r k d) 3 4 a on-date))
 
-  pub day-refused : (n : ℕ) → monthAsked c y m leap ≡ refused n → dayOf c y m leap d ≡ refused n
-  day-refused n e = day-asked ∙ ap (λ a. then a (λ a. within (a .0) (a .1))) e
+  pub day-refused : (n : ℕ) → monthAsked c y m leap d ≡ refused n → dayOf c y m leap d ≡ refused n
+  day-refused n e = day-asked ∙ ap (λ a. then a on-date) e
 
-  module _ (k : Calendar) (b : Begun) (e : monthAsked c y m leap ≡ given (k, b)) where
-    in-month : dayOf c y m leap d ≡ within k b
-    in-month = day-asked ∙ ap (λ a. then a (λ a. within (a .0) (a .1))) e
-
-    pub day-lacking : hasDay (rulesOf k) (b .month) d ≡ false → refused 4 ≡ dayOf c y m leap d
-    day-lacking h = sym (in-month ∙ fails 4 _ (hasDay (rulesOf k) (b .month) d) h)
-
-    pub day-there : hasDay (rulesOf k) (b .month) d ≡ true → given (dayNumber (rulesOf k) (b .start + d - 1)) ≡ dayOf c y m leap d
-    day-there h = sym (in-month ∙ holds 4 _ (hasDay (rulesOf k) (b .month) d) h)
+  pub day-found : (k : Calendar) (b : Begun) → monthAsked c y m leap d ≡ given (k, b) → given (dayNumber (rulesOf k) (b .start + d - 1)) ≡ dayOf c y m leap d
+  day-found k b e = sym (day-asked ∙ ap (λ a. then a on-date) e)
 
 -- ---- the date
 

@@ -5,17 +5,9 @@ use lib.Dec.{leb, ltb}
 use Rattle.numbers.specs.Answer.{Answer, given, need}
 use Rattle.months.specs.Rules.{Rules, dayNumber}
 use Rattle.months.specs.Months.{monthOf, firstDay, nextFirstDay, yearWith, isLeap, numberOf}
-use Rattle.asked.specs.Asked.{isCalendar, rulesFor, isCovered, monthNamed, hasMonth}
+use Rattle.asked.specs.Asked.{isCalendar, rulesFor, isCovered, monthNamed, hasMonth, hasDay}
 use Rattle.calendar.specs.declared.Date.{Date}
 use Rattle.calendar.specs.declared.Days.{Days}
-
--- how many days month k has
-abbrev pub monthLength : Rules → ℕ → ℕ
-monthLength r k = r .start (k + 1) - r .start k
-
--- the month has that day; else refusal 4: "day 0 or past the month"
-abbrev pub hasDay : Rules → ℕ → ℕ → Bool
-hasDay r k d = leb 1 d && leb d (monthLength r k)
 
 -- day d of month k, by its day number
 abbrev pub dayIn : Rules → ℕ → ℕ → ℕ

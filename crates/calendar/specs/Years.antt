@@ -5,11 +5,10 @@ use lib.ListN.{replicate}
 use Rattle.numbers.specs.Places.{places}
 use Rattle.numbers.specs.Answer.{Answer, given, need}
 use Rattle.months.specs.Rules.{Rules, dayNumber}
-use Rattle.months.specs.Months.{firstMonth, monthCount, firstDay, nextFirstDay, isLeap, numberOf}
+use Rattle.months.specs.Months.{monthLength, firstMonth, monthCount, firstDay, nextFirstDay, isLeap, numberOf}
 use Rattle.asked.specs.Asked.{isCalendar, rulesFor, isCovered}
 use Rattle.calendar.specs.declared.Month.{Month}
 use Rattle.calendar.specs.declared.Year.{Year}
-use Rattle.calendar.specs.Dates.{monthLength}
 
 -- month k as a year lists it
 abbrev pub listed : Rules → ℕ → Month

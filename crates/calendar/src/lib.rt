@@ -2,7 +2,7 @@ ghost use mathlib.Core.Path.{_≡_};
 ghost use Prim.Native.Nat.{_+_, _-_, _<_};
 ghost use Rattle.months.specs.Rules.{rulesOf};
 ghost use Rattle.asked.specs.Room.{CoveredYear, CoveredMonth};
-ghost use Rattle.calendar.specs.Dates.{coveredDays, hasDay, dayOf, dateIn, dateOf, cycle};
+ghost use Rattle.calendar.specs.Dates.{coveredDays, dayOf, dateIn, dateOf, cycle};
 ghost use Rattle.calendar.specs.Years.{listed, noMonth, noYear, yearIn, yearOf};
 ghost use Rattle.calendar.specs.Answers.{dayMeans, dateMeans, yearAnswer};
 ghost use Rattle.calendar.specs.Room.{CoveredDay, CoveredMonths, listedAt, listing};
@@ -76,33 +76,15 @@ struct Listing {
     months: [Month; 13],
 }
 
-// Whether a month has a day. It has 29 or 30: only of day 30 must one know when the next month starts.
-fn has_day(calendar: Calendar, month: Begun, day: u64) -> bool
-    requires { ⌜ CoveredMonth (rulesOf calendar) month ⌝ }
-    ensures { λ r. ⌜ r ≡ hasDay (rulesOf calendar) (month .month) day ⌝ }
-{
-    if day < 1 {
-        return false;
-    }
-    if day < 30 {
-        return true;
-    }
-    let next = months::begin(calendar, month.month + 1);
-    day <= next.start - month.start
-}
-
 // The day of a date.
 pub fn day_of(calendar: u64, year: u64, month: u64, leap: bool, day: u64) -> DayAnswer
     ensures { λ r. ⌜ dayMeans r ≡ dayOf calendar year month leap day ⌝ }
 {
-    let asked = asked::asked_month(calendar, year, month, leap);
+    let asked = asked::asked_month(calendar, year, month, leap, day);
     let MonthAsked::Found(known, found) = asked else {
         return DayAnswer::Refused(asked::month_refusal(asked));
     };
-    if has_day(known, found, day) {
-        return DayAnswer::Day((found.start + day - 1 - months::day_zero(known)) as u32);
-    }
-    DayAnswer::Refused(4)
+    DayAnswer::Day((found.start + day - 1 - months::day_zero(known)) as u32)
 }
 
 fn covered_days(calendar: Calendar) -> Days

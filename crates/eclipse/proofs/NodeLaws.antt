@@ -1,7 +1,7 @@
 -- Laws of the node's place: the corrections fit their words, what is brought back is within the period, and the distance is rounded by adding half.
 use mathlib.Core.Path.{_≡_, refl, sym, ap, _∙_}
 use mathlib.Core.Bool.{Bool, true, false}
-use Prim.Native.Nat.{ℕ, _+_, _-_, _*_, _/_, _%_, _<_, _≤_, min}
+use Prim.Native.Nat.{ℕ, _+_, _-_, _/_, _%_, _<_, _≤_, min}
 use native.Mathlib.Omega.{arith}
 use borrow.Author.Tests.{lt-ltb, le-ltb}
 use lib.IntN.{ℤ, pos, _+ℤ_, _*ℤ_}

@@ -11,7 +11,7 @@ use Rattle.numbers.specs.Spans.{Holds, spanOf}
 use Rattle.numbers.proofs.Spans.{later, one-span, span-holds, span-is, span-from, span-before}
 use Rattle.months.specs.declared.Calendar.{Calendar}
 use Rattle.months.specs.Rules.{Rules, dayNumber}
-use Rattle.months.specs.Months.{firstMonth, firstDay, monthOf, yearWith, isLeap, numberOf}
+use Rattle.months.specs.Months.{monthLength, firstMonth, firstDay, monthOf, yearWith, isLeap, numberOf}
 use Rattle.months.specs.Room.{Covering}
 use Rattle.months.specs.Year.{MonthDays}
 use Rattle.months.proofs.Terms.{number-of-last}
@@ -24,7 +24,7 @@ use Rattle.asked.proofs.Names.{NamedBack, named-back}
 use Rattle.asked.proofs.Covered.{covered-year-told, covered-year-tested, name-found, month-covering}
 use Rattle.asked.proofs.Numbers.{year-small}
 use Rattle.calendar.specs.declared.Date.{Date}
-use Rattle.calendar.specs.Dates.{monthLength, dayIn, isCoveredDay, dateIn}
+use Rattle.calendar.specs.Dates.{dayIn, isCoveredDay, dateIn}
 use Rattle.calendar.proofs.Covered.{year-room, covered-day-told, covered-day-tested}
 use Rattle.calendar.proofs.Refusals.{day-given, day-refused-3, day-refused-4, date-given}
 use Rattle.kept.specs.declared.Run.{Run}

@@ -6,10 +6,9 @@ use lib.Dec.{eqb, leb}
 use Rattle.numbers.specs.Places.{places}
 use Rattle.numbers.specs.Same.{sameBy}
 use Rattle.months.specs.Rules.{Rules, dayNumber}
-use Rattle.months.specs.Months.{firstMonth, yearWith, isLeap, numberOf}
+use Rattle.months.specs.Months.{monthLength, firstMonth, yearWith, isLeap, numberOf}
 use Rattle.asked.specs.Asked.{isCalendar, rulesFor, isCovered}
 use Rattle.calendar.specs.declared.Date.{Date}
-use Rattle.calendar.specs.Dates.{monthLength}
 use Rattle.kept.specs.declared.Run.{Run}
 
 -- ---- what a run holds: of each month two numbers, from which its year, number, leap or not, length and days can be told

@@ -55,13 +55,6 @@ unfolding rulesOf
 edges Senmyo = record { first-day = omega (arith, senmyo-opens); last-day = omega (arith, senmyo-ends); last-month = omega (arith, first-1685); day-zero = omega arith }
 edges Genka = record { first-day = omega (arith, genka-opens); last-day = omega (arith, genka-ends); last-month = omega (arith, first-698); day-zero = omega arith }
 
--- ---- a month of the covered years, or the one after them
-
-pub days-to-next : (c : Calendar) (k : ℕ) → firstMonth (rulesOf c) (rulesOf c .firstYear) ≤ k → k ≤ firstMonth (rulesOf c) (rulesOf c .lastYear + 1) → MonthDays (rulesOf c) k
-unfolding rulesOf
-days-to-next Senmyo k low high = senmyo-lengths.month-takes k (omega (arith, low, tested-from 822 (omega arith))) (omega (arith, high, tested-to 1685 (omega arith)))
-days-to-next Genka k low high = genka-laws.month-takes k
-
 -- ---- a month of the covered years
 
 module _ (c : Calendar) (k : ℕ) (h : Covering (rulesOf c) k) where

@@ -3,6 +3,7 @@ pub mod Terms
 pub mod FirstMonths
 pub mod Years
 pub mod Calendars
+pub mod SenmyoMonths
 pub mod FourteenYears
 pub mod Figures
 pub mod CoveredYears

@@ -7,6 +7,7 @@ use Rattle.months.proofs.term_number.Reads as term-number
 use Rattle.months.proofs.term_day.Reads as term-day
 use Rattle.months.proofs.begin.Reads as begin
 use Rattle.months.proofs.month_of.Reads as month-of
+use Rattle.months.proofs.month_by.Reads as month-by
 use Rattle.months.proofs.last_term_by.Reads as last-term-by
 use Rattle.months.proofs.last_term_of.Reads as last-term-of
 use Rattle.months.proofs.term_year.Reads as term-year
@@ -30,6 +31,9 @@ one-begin _ _ _ _ _ _ = one
 
 pub one-month-of : OneResult month-of.Learnt
 one-month-of _ _ _ _ _ _ = one
+
+pub one-month-by : OneResult month-by.Learnt
+one-month-by _ _ _ _ _ _ = one
 
 pub one-last-term-by : OneResult last-term-by.Learnt
 one-last-term-by _ _ _ _ _ _ = one

@@ -31,6 +31,10 @@ monthWith r j = monthOf r (r .mid j)
 abbrev pub begun : Rules → ℕ → Begun
 begun r k = record { month = k; start = r .start k }
 
+-- how many days month k has
+abbrev pub monthLength : Rules → ℕ → ℕ
+monthLength r k = r .start (k + 1) - r .start k
+
 -- month 1 of year y has that year's Rain Water
 unfoldable pub firstMonth : Rules → ℕ → ℕ
 firstMonth r y = monthWith r (r .rainWater y)

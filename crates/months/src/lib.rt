@@ -170,6 +170,30 @@ pub fn month_of(calendar: Calendar, day: u32) -> Begun
     }
 }
 
+// The month of Senmyo that has a day, by its number alone: nearly always the bounds of the corrections tell it, without its new moon.
+fn senmyo_month_by(day: u32) -> u32
+    ensures { λ r. ⌜ r ≡ monthOf senmyo day ⌝ }
+{
+    let latest = senmyo::latest_month(day);
+    if senmyo::sure_month(day) == latest {
+        return latest;
+    }
+    if senmyo::new_moon_day(latest) <= day as u64 {
+        return latest;
+    }
+    latest - 1
+}
+
+// The month that has a day, by its number alone.
+pub fn month_by(calendar: Calendar, day: u32) -> u32
+    ensures { λ r. ⌜ r ≡ monthOf (rulesOf calendar) day ⌝ }
+{
+    match calendar {
+        Calendar::Senmyo => senmyo_month_by(day),
+        Calendar::Genka => genka::month_by(day),
+    }
+}
+
 // The last mid-term by the end of a month, which is the eve of `next`.
 pub fn last_term_by(calendar: Calendar, month: Begun, next: u64) -> LastTerm
     requires { ⌜ Ending (rulesOf calendar) month next ⌝ }

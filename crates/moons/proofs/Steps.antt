@@ -5,17 +5,15 @@ use Prim.Native.Nat.{ℕ}
 use lib.Dec.{eqb}
 use borrow.Author.Tests.{ne-eqb}
 use Rattle.numbers.specs.Answer.{Answer, given, refused, need, then}
-use Rattle.numbers.proofs.Answers.{one-given, then-need}
+use Rattle.numbers.proofs.Answers.{one-given, then-need, then-needs}
 use Rattle.eclipse.specs.Eclipse.{Graded}
 use Rattle.months.specs.declared.Calendar.{Calendar}
 use Rattle.months.specs.declared.Calendar.the-variants.{Senmyo}
-use Rattle.months.specs.declared.Begun.{Begun}
 use Rattle.months.specs.Rules.{Rules, senmyo, rulesOf}
-use Rattle.months.specs.Months.{begun}
 use Rattle.months.specs.Room.{Covering}
-use Rattle.asked.specs.Asked.{isCalendar, numbered, rulesFor, isCovered, monthNamed, hasMonth, monthAsked}
-use Rattle.asked.proofs.Given.{month-given}
-use Rattle.asked.proofs.Covered.{asked-month-covered}
+use Rattle.asked.specs.Asked.{isCalendar, numbered, rulesFor, isCovered, monthNamed, hasMonth, moonAsked}
+use Rattle.asked.proofs.Given.{moon-given}
+use Rattle.asked.proofs.Covered.{asked-moon-covered}
 use Rattle.moons.specs.declared.FullMoon.{FullMoon}
 use Rattle.moons.specs.Eclipses.{eclipseIn, eclipseOf}
 use Rattle.moons.specs.Instants.{ofMonth}
@@ -23,23 +21,23 @@ use Rattle.moons.specs.Instants.{ofMonth}
 -- ---- what is asked of a month
 
 module _ {A : Type 0} (what : Rules → ℕ → A) (c y m : ℕ) (leap : Bool) where
-  abbrev told : Calendar × Begun → Answer A
-  told a = given (what (rulesOf (a .0)) (a .1 .month))
+  abbrev told : Calendar × ℕ → Answer A
+  told a = given (what (rulesOf (a .0)) (a .1))
 
-  pub of-asked : ofMonth what c y m leap ≡ then (monthAsked c y m leap) told
-  unfolding monthAsked
+  of-asked : ofMonth what c y m leap ≡ then (moonAsked c y m leap) told
+  unfolding moonAsked
   of-asked =
       let r : Rules = rulesFor c in
-      let a : Answer (Calendar × Begun) = given (numbered c, begun r (monthNamed r y m leap)) in
+      let a : Answer (Calendar × ℕ) = given (numbered c, monthNamed r y m leap) in
       sym
-      (then-need (isCalendar c) 1 (need (isCovered r y) 2 (need (hasMonth r y m leap) 3 a)) told
-      ∙ ap (need (isCalendar c) 1) (then-need (isCovered r y) 2 (need (hasMonth r y m leap) 3 a) told ∙ ap (need (isCovered r y) 2) (then-need (hasMonth r y m leap) 3 a told)))
+      (then-needs (isCalendar c) (isCovered r y) 1 2 (need (hasMonth r y m leap) 3 a) told
+      ∙ ap (λ a. need (isCalendar c) 1 (need (isCovered r y) 2 a)) (then-need (hasMonth r y m leap) 3 a told))
 
-  pub of-refused : (n : ℕ) → monthAsked c y m leap ≡ refused n → ofMonth what c y m leap ≡ refused n
+  pub of-refused : (n : ℕ) → moonAsked c y m leap ≡ refused n → ofMonth what c y m leap ≡ refused n
   of-refused n e = of-asked ∙ ap (λ a. then a told) e
 
-  pub of-found : (k : Calendar) (s : Begun) → monthAsked c y m leap ≡ given (k, s) → ofMonth what c y m leap ≡ given (what (rulesOf k) (s .month))
-  of-found k s e = of-asked ∙ ap (λ a. then a told) e
+  pub of-found : (k : Calendar) (n : ℕ) → moonAsked c y m leap ≡ given (k, n) → ofMonth what c y m leap ≡ given (what (rulesOf k) n)
+  of-found k n e = of-asked ∙ ap (λ a. then a told) e
 
 -- ---- the eclipse: what is asked of a month of Senmyo
 
@@ -68,9 +66,9 @@ is-senmyo c h is = by-number (eqb c 1) refl
     by-number true e = rw (e, numbered)
     by-number false e = absurd (false≢true (sym (rw (e, ne-eqb c 2 h)) ∙ is))
 
-pub senmyo-found : (c y m : ℕ) (leap : Bool) (k : Calendar) (s : Begun) → (c ≡ 2 → ⊥) → monthAsked c y m leap ≡ given (k, s) → Covering senmyo (s .month)
+pub senmyo-found : (c y m : ℕ) (leap : Bool) (k : Calendar) (n : ℕ) → (c ≡ 2 → ⊥) → moonAsked c y m leap ≡ given (k, n) → Covering senmyo n
 unfolding rulesOf
-senmyo-found c y m leap k s h e =
-    let g = month-given c y m leap (k, s) .only-if e in
-    let same : k ≡ Senmyo = sym (ap (λ (a : Calendar × Begun). a .0) (one-given (numbered c, begun (rulesFor c) (monthNamed (rulesFor c) y m leap)) (k, s) (g .1 .1 .1))) ∙ is-senmyo c h (g .0) in
-    subst (λ (k : Calendar). Covering (rulesOf k) (s .month)) same (asked-month-covered c y m leap k s e .covering)
+senmyo-found c y m leap k n h e =
+    let g = moon-given c y m leap (k, n) .only-if e in
+    let same : k ≡ Senmyo = sym (ap (λ (a : Calendar × ℕ). a .0) (one-given (numbered c, monthNamed (rulesFor c) y m leap) (k, n) (g .1 .1 .1))) ∙ is-senmyo c h (g .0) in
+    subst (λ (k : Calendar). Covering (rulesOf k) n) same (asked-moon-covered c y m leap (k, n) e)

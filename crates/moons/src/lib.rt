@@ -5,7 +5,7 @@ ghost use Rattle.moons.specs.Eclipses.{fullMoonAt, eclipseOf};
 ghost use Rattle.moons.specs.Instants.{instantIn, newMoonOf, fullMoonOf, moonsOf};
 ghost use Rattle.moons.specs.Answers.{eclipseMeans, instantMeans, moonsMeans};
 ghost use Rattle.moons.specs.Room.{momentIn, phaseOf, Dated};
-use asked::MonthAsked;
+use asked::MoonAsked;
 use eclipse::Grade;
 use eclipse::Side;
 use months::Calendar;
@@ -72,11 +72,11 @@ pub fn eclipse_of(calendar: u64, year: u64, month: u64, leap: bool) -> EclipseAn
     if calendar == 2 {
         return EclipseAnswer::Refused(13);
     }
-    let asked = asked::asked_month(calendar, year, month, leap);
-    let MonthAsked::Found(_, found) = asked else {
-        return EclipseAnswer::Refused(asked::month_refusal(asked));
+    let asked = asked::asked_moon(calendar, year, month, leap);
+    let MoonAsked::Found(_, found) = asked else {
+        return EclipseAnswer::Refused(asked::moon_refusal(asked));
     };
-    let moon = full_moon_at(found.month);
+    let moon = full_moon_at(found);
     EclipseAnswer::FullMoon(moon, eclipse::grade_of(moon.distance))
 }
 
@@ -102,11 +102,11 @@ fn moment_of(calendar: Calendar, month: u32, phase: Phase) -> Moment
 fn phase_of(calendar: u64, year: u64, month: u64, leap: bool, phase: Phase) -> Instant
     ensures { λ r. ⌜ instantMeans r ≡ phaseOf phase calendar year month leap ⌝ }
 {
-    let asked = asked::asked_month(calendar, year, month, leap);
-    let MonthAsked::Found(known, found) = asked else {
-        return Instant::Refused(asked::month_refusal(asked));
+    let asked = asked::asked_moon(calendar, year, month, leap);
+    let MoonAsked::Found(known, found) = asked else {
+        return Instant::Refused(asked::moon_refusal(asked));
     };
-    Instant::At(instant_of(known, moment_of(known, found.month, phase)))
+    Instant::At(instant_of(known, moment_of(known, found, phase)))
 }
 
 // The new moon of a month.
@@ -127,12 +127,12 @@ pub fn full_moon_of(calendar: u64, year: u64, month: u64, leap: bool) -> Instant
 pub fn moons_of(calendar: u64, year: u64, month: u64, leap: bool) -> MoonsAnswer
     ensures { λ r. ⌜ moonsMeans r ≡ moonsOf calendar year month leap ⌝ }
 {
-    let asked = asked::asked_month(calendar, year, month, leap);
-    let MonthAsked::Found(known, found) = asked else {
-        return MoonsAnswer::Refused(asked::month_refusal(asked));
+    let asked = asked::asked_moon(calendar, year, month, leap);
+    let MoonAsked::Found(known, found) = asked else {
+        return MoonsAnswer::Refused(asked::moon_refusal(asked));
     };
     MoonsAnswer::Both(Moons {
-        new: instant_of(known, months::new_moon(known, found.month)),
-        full: instant_of(known, months::full_moon(known, found.month)),
+        new: instant_of(known, months::new_moon(known, found)),
+        full: instant_of(known, months::full_moon(known, found)),
     })
 }

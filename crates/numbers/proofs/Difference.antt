@@ -1,7 +1,7 @@
 -- Laws of `Is`: what unsigned numbers tell of a signed one.
 use mathlib.Core.Path.{_≡_, refl, sym, ap, _∙_}
 use mathlib.Core.Bool.{Bool, true, false, cond}
-use Prim.Native.Nat.{ℕ, zero, suc, _+_, _-_, _*_, _≤_}
+use Prim.Native.Nat.{ℕ, zero, suc, _+_, _-_, _*_}
 use native.Mathlib.Nat.{add-mul}
 use native.Mathlib.Omega.{arith}
 use borrow.Author.Tests.{ltb-true, ltb-false, lt-ltb, le-ltb}
@@ -83,11 +83,3 @@ parts (negsuc n) = omega arith
 -- what is above zero of a number, less what is below
 pub is-parts : (z : ℤ) → Is z (whole z) (whole (negℤ z))
 is-parts z = is (parts z)
-
-whole-told : (z : ℤ) (a b : ℕ) → b ≤ a → Difference z a b → whole z ≡ a - b
-whole-told (pos n) a b h g = omega arith
-whole-told (negsuc n) a b h g = absurd (omega arith)
-
--- a difference that is not below zero, as a natural
-pub is-whole : {z : ℤ} {a b : ℕ} → b ≤ a → Is z a b → whole z ≡ a - b
-is-whole {z} {a} {b} h g = whole-told z a b h (g .difference)

@@ -7,9 +7,9 @@ use lib.Dec.{ltb}
 use Rattle.numbers.specs.Answer.{Answer, given, refused}
 use Rattle.numbers.proofs.Answers.{Exactly, after, after-so, gives, refuses, refuses-so, passes, never, not-refused}
 use Rattle.months.specs.Rules.{Rules}
-use Rattle.asked.specs.Asked.{isCalendar, rulesFor, isCovered, hasMonth, monthNamed}
+use Rattle.asked.specs.Asked.{isCalendar, rulesFor, isCovered, hasMonth, monthNamed, hasDay}
 use Rattle.calendar.specs.declared.Date.{Date}
-use Rattle.calendar.specs.Dates.{hasDay, dayIn, dayOf, isCoveredDay, dateIn, dateOf}
+use Rattle.calendar.specs.Dates.{dayIn, dayOf, isCoveredDay, dateIn, dateOf}
 use Rattle.calendar.proofs.Refusals.{day-refused-2, day-refused-3, day-refused-4, date-refused-5}
 use Rattle.kept.specs.declared.Run.{Run}
 use Rattle.kept.specs.Runs.{runOf, noRun, canBeKept, isRun}

@@ -15,7 +15,7 @@ use Rattle.numbers.proofs.Tests.{everyTwo, at-each-two}
 use Rattle.units.specs.Units.{fenToByo, wholeDays}
 use Rattle.means.specs.Means.{meanNewMoon, meanFullMoon, midTermDay, rainWater}
 use Rattle.senmyo.specs.Phases.{corrections, newMoon, newMoonDay, fullMoon, fullMoonFen}
-use Rattle.senmyo.specs.Room.{latestMonth}
+use Rattle.senmyo.specs.Room.{latestMonth, sureMonth}
 use Rattle.senmyo.proofs.Worked.{dayAt}
 use Rattle.senmyo.proofs.PhaseLaws.{corrections-between, new-moon-exact, full-moon-exact, advance-is-floor}
 
@@ -96,6 +96,10 @@ latest-begun d = omega (arith, near-mean (latestMonth d - 1))
 
 pub none-later : (d : ℕ) → d < newMoonDay (latestMonth d + 1)
 none-later d = omega (arith, near-mean (latestMonth d + 1))
+
+-- .. and the last that must begin by a day has begun
+pub sure-begun : (d : ℕ) → newMoonDay (sureMonth d) ≤ d
+sure-begun d = omega (arith, near-mean (sureMonth d))
 
 -- the full moon falls on the 14th to the 17th day of its month
 pub record InMidst (k : ℕ) : Type 0 where

@@ -5,6 +5,7 @@ use Rattle.senmyo.proofs.new_moon.Reads as new-moon
 use Rattle.senmyo.proofs.advanced_day.Reads as advanced-day
 use Rattle.senmyo.proofs.new_moon_day.Reads as new-moon-day
 use Rattle.senmyo.proofs.latest_month.Reads as latest-month
+use Rattle.senmyo.proofs.sure_month.Reads as sure-month
 use Rattle.senmyo.proofs.full_moon.Reads as full-moon
 use Rattle.senmyo.proofs.full_moon_fen.Reads as full-moon-fen
 use Rattle.senmyo.proofs.node_place.Reads as node-place
@@ -21,6 +22,9 @@ one-new-moon-day _ _ _ _ _ _ = one
 
 pub one-latest-month : OneResult latest-month.Learnt
 one-latest-month _ _ _ _ _ _ = one
+
+pub one-sure-month : OneResult sure-month.Learnt
+one-sure-month _ _ _ _ _ _ = one
 
 pub one-full-moon : OneResult full-moon.Learnt
 one-full-moon _ _ _ _ _ _ = one

@@ -14,3 +14,7 @@ pub record Movable (count : ℕ) (by : ℤ) : Type 0 where
 -- the last mean new moon before a day's fen 6,300 and 1,526 + 3,195 fen more, by which Sun and Moon may put a new moon before its mean
 abbrev pub latestMonth : ℕ → ℕ
 latestMonth day = (dayFen * day + 6300 + (1526 + 3195) - 1) / meanNewMoon 1 .0
+
+-- .. and the last before that fen less 1,526 + 3,225, by which they may put it behind
+abbrev pub sureMonth : ℕ → ℕ
+sureMonth day = (dayFen * day + 6300 - (1526 + 3225) - 1) / meanNewMoon 1 .0

@@ -18,13 +18,15 @@ ghost use Prim.Native.Nat.{_<_, _^_};
 ghost use lib.IntN.{pos, _+ℤ_};
 ghost use Rattle.senmyo.specs.Phases.{corrections, newMoon, advancedDay, newMoonDay, fullMoon, fullMoonFen};
 ghost use Rattle.senmyo.specs.FullMoons.{nodePlaceAt, nodeAt};
-ghost use Rattle.senmyo.specs.Room.{latestMonth, Movable};
+ghost use Rattle.senmyo.specs.Room.{latestMonth, sureMonth, Movable};
 
 // From this fen of its day on, a new moon counts to the next day.
 const ADVANCE: u64 = 6300;
 
-// Sun and Moon together put no new moon farther before its mean.
+// Sun and Moon together put no new moon farther before its mean, or behind it.
 const MOST_EARLY: u64 = 1526 + 3195;
+
+const MOST_LATE: u64 = 1526 + 3225;
 
 // Both corrections together, in fen. Both are taken at the mean moment.
 fn correction(mean: Byo) -> i64
@@ -71,6 +73,13 @@ pub fn latest_month(day: u32) -> u32
     ensures { λ r. ⌜ r ≡ latestMonth day ⌝ }
 {
     ((FEN_IN_DAY * (day as u64) + ADVANCE + MOST_EARLY - 1) / MONTH) as u32
+}
+
+// The last new moon that is sure to: it falls before the day's advance even if it is as late as can be.
+pub fn sure_month(day: u32) -> u32
+    ensures { λ r. ⌜ r ≡ sureMonth day ⌝ }
+{
+    ((FEN_IN_DAY * (day as u64) + ADVANCE - MOST_LATE - 1) / MONTH) as u32
 }
 
 // The full moon after new moon `number`, exactly.

@@ -1,5 +1,5 @@
 -- `calendar::listed_month` meets its contract: the number, the length and the first day are those of the month.
-use mathlib.Core.Path.{_≡_, ap, sym}
+use mathlib.Core.Path.{_≡_, ap}
 use Prim.Native.Nat.{_+_}
 use native.Mathlib.Omega.{arith}
 use borrow.Author.Needs.{needs}

@@ -4,9 +4,9 @@ use borrow.Author.Needs.{needs}
 use Rattle.numbers.specs.Answer.{given, refusalIn}
 use Rattle.months.specs.Rules.{rulesOf}
 use Rattle.months.specs.Room.{Covering}
-use Rattle.asked.specs.Asked.{monthAsked}
-use Rattle.asked.specs.Answers.{monthMeans}
-use Rattle.asked.proofs.Covered.{asked-month-covered}
+use Rattle.asked.specs.Asked.{moonAsked}
+use Rattle.asked.specs.Answers.{moonMeans}
+use Rattle.asked.proofs.Covered.{asked-moon-covered}
 use Rattle.moons.specs.Instants.{instantIn}
 use Rattle.moons.specs.Room.{momentIn}
 use Rattle.moons.proofs.Steps.{of-refused, of-found}
@@ -14,8 +14,8 @@ use Rattle.moons.proofs.Moments.{moon-dated}
 use Rattle.moons.proofs.phase_of.Statement.{statement}
 use Rattle.moons.proofs.phase_of.Tie as tie
 
-asked-month-requires : tie.Need-asked-month-requires
-asked-month-requires c κs = search needs
+asked-moon-requires : tie.Need-asked-moon-requires
+asked-moon-requires c κs = search needs
 
 enum-known-asked : tie.Need-enum-known-asked
 enum-known-asked c = search needs
@@ -23,21 +23,21 @@ enum-known-asked c = search needs
 enum-told : tie.Need-enum-told
 enum-told c = search needs
 
-month-refusal-requires : tie.Need-month-refusal-requires
-month-refusal-requires c κs = search needs
+moon-refusal-requires : tie.Need-moon-refusal-requires
+moon-refusal-requires c κs = search needs
 
 returns : tie.Need-returns
 returns c =
     let told = c .before .enum-told .given in
-    let number : c .month-refusal .result ≡ told .0 .0 = c .month-refusal .ensures ∙ ap (λ a. refusalIn (monthMeans a)) (told .1) in
-    rw number (sym (of-refused (λ r k. instantIn r (momentIn (c .before .before .before .before .args .phase) r k)) _ _ _ _ (told .0 .0) (sym (c .before .before .before .asked-month .ensures) ∙ ap monthMeans (told .1))))
+    let number : c .moon-refusal .result ≡ told .0 .0 = c .moon-refusal .ensures ∙ ap (λ a. refusalIn (moonMeans a)) (told .1) in
+    rw number (sym (of-refused (λ r k. instantIn r (momentIn (c .before .before .before .before .args .phase) r k)) _ _ _ _ (told .0 .0) (sym (c .before .before .before .asked-moon .ensures) ∙ ap moonMeans (told .1))))
 
 -- the month that was asked for, once it is found
-month-asked : (c : tie.After-known-told) → monthAsked (c .before .before .before .before .args .calendar) (c .before .before .before .before .args .year) (c .before .before .before .before .args .month) (c .before .before .before .before .args .leap) ≡ given (c .before .asked .given .0 .0, c .before .asked .given .0 .1 .0)
-month-asked c = sym (c .before .before .before .asked-month .ensures) ∙ ap monthMeans (c .before .asked .given .1)
+moon-asked : (c : tie.After-known-told) → moonAsked (c .before .before .before .before .args .calendar) (c .before .before .before .before .args .year) (c .before .before .before .before .args .month) (c .before .before .before .before .args .leap) ≡ given (c .before .asked .given .0 .0, c .before .asked .given .0 .1 .0)
+moon-asked c = sym (c .before .before .before .asked-moon .ensures) ∙ ap moonMeans (c .before .asked .given .1)
 
-covered : (c : tie.After-known-told) → Covering (rulesOf (c .before .asked .given .0 .0)) (c .before .asked .given .0 .1 .0 .month)
-covered c = asked-month-covered _ _ _ _ _ _ (month-asked c) .covering
+covered : (c : tie.After-known-told) → Covering (rulesOf (c .before .asked .given .0 .0)) (c .before .asked .given .0 .1 .0)
+covered c = asked-moon-covered _ _ _ _ _ (moon-asked c)
 
 moment-of-requires : tie.Need-moment-of-requires
 moment-of-requires c κs = search needs
@@ -48,16 +48,16 @@ instant-of-requires c κs = rw (c .moment-of .ensures) (moon-dated _ _ (covered 
 returns-2 : tie.Need-returns-2
 returns-2 c =
     let told = rw (c .before .moment-of .ensures) at (c .instant-of .ensures) in
-    ap given told ∙ sym (of-found (λ r k. instantIn r (momentIn (c .before .before .before .before .before .before .args .phase) r k)) _ _ _ _ _ _ (month-asked (c .before .before)))
+    ap given told ∙ sym (of-found (λ r k. instantIn r (momentIn (c .before .before .before .before .before .before .args .phase) r k)) _ _ _ _ _ _ (moon-asked (c .before .before)))
 
 pub phase-of-spec : {M : Type 1} → statement M
 phase-of-spec =
     tie.close
     (tie.spec
-    asked-month-requires
+    asked-moon-requires
     enum-known-asked
     enum-told
-    month-refusal-requires
+    moon-refusal-requires
     returns
     moment-of-requires
     instant-of-requires

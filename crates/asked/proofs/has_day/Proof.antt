@@ -1,15 +1,14 @@
--- `calendar::has_day` meets its contract: a covered month has days 1 to 29, and of any later one the next month tells.
+-- `asked::has_day` meets its contract: a covered month has days 1 to 29, and of any later one the next month tells.
 use mathlib.Core.Path.{_≡_, ap}
-use Prim.Native.Nat.{_+_}
 use native.Mathlib.Omega.{arith}
 use borrow.Author.Needs.{needs}
 use borrow.Author.Tests.{le-leb, lt-leb}
 use Rattle.months.specs.Rules.{rulesOf}
 use Rattle.asked.specs.Room.{CoveredMonth}
 use Rattle.asked.proofs.Covered.{MonthRoom, month-room}
-use Rattle.calendar.specs.Dates.{monthLength}
-use Rattle.calendar.proofs.has_day.Statement.{statement}
-use Rattle.calendar.proofs.has_day.Tie as tie
+use Rattle.months.specs.Months.{monthLength}
+use Rattle.asked.proofs.has_day.Statement.{statement}
+use Rattle.asked.proofs.has_day.Tie as tie
 
 room : (c : tie.Start) → MonthRoom (rulesOf (c .args .calendar)) (c .args .month)
 room c =
