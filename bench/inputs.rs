@@ -10,7 +10,7 @@ use std::ops::RangeInclusive;
 /// So many that no processor learns the course of a search by heart.
 pub const COUNT: usize = 20_000;
 
-/// Fewer where each call takes a hundred times as long.
+/// Fewer where each call takes some two hundred times as long.
 pub const COUNT_ON_RUNS: usize = 2_000;
 
 const SEED: u64 = 0x2545_F491_4F6C_DD1D;
