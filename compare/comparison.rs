@@ -38,7 +38,7 @@ impl Comparison {
         }
     }
 
-    /// Asks both, with random numbers where the library is lent room to write.
+    /// Asks both, with random bits where the library is lent room to write.
     pub fn ask(&mut self, question: Question) {
         let filling = [(); ROOM].map(|()| self.generator.bits());
         let (expected, refusal) = expected::answer(&question, &filling);

@@ -1,5 +1,5 @@
-//! The room of which a part is lent to be written, with numbers in it beforehand,
-//! and what an answer leaves there.
+//! The room of which a part is lent to be written, with random bits in it
+//! beforehand, and what an answer leaves there, bit by bit.
 
 pub const ROOM: usize = 72;
 pub const LENT_FROM: usize = 4;
@@ -57,9 +57,18 @@ impl Place for u32 {
     }
 }
 
+/// Any bits. Where the exponent's lowest two say so they are made a NaN, quiet or
+/// signalling with any payload, an infinity, or a zero, each of either sign.
 impl Place for f64 {
     fn filled(number: u64) -> f64 {
-        number as f64
+        let sign = number & (-0.0_f64).to_bits();
+        let exponent = f64::INFINITY.to_bits();
+        f64::from_bits(match (number >> 52) % 4 {
+            0 => number | exponent,
+            1 => sign | exponent,
+            2 => sign,
+            _ => number,
+        })
     }
 
     fn bits(self) -> u64 {

@@ -11,7 +11,7 @@ use crate::refusal::{self, Refusal};
 use crate::rounding::{floor, nearest};
 use crate::run::{self, Run};
 use crate::units::{AnomalySeconds, Byo, Fen, BYO_IN_A_FEN};
-use crate::{answers, eclipse, genka, moon, record, senmyo, sun};
+use crate::{eclipse, genka, moon, record, replies, senmyo, sun};
 
 /// Every 25 fen of a year, and every 5 fen of the Moon's period.
 const MOMENTS_OF_SUN: i64 = 122_723;
@@ -509,7 +509,7 @@ fn eclipses_refused() -> String {
 fn program() -> String {
     let of_1522 = covered(1, 1522);
     [
-        INPUTS.map(answers::answer).concat(),
+        INPUTS.map(replies::answer).concat(),
         lines::eclipse_lines(&covered(1, 824)),
         lines::eclipse_lines(&of_1522),
         lines::instant_lines(&of_1522),

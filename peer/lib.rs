@@ -6,7 +6,6 @@
 //! and the peer differ, the rules say which of them is to be mended; an
 //! expected file is never edited to settle it.
 
-pub mod answers;
 pub mod calendar;
 pub mod dates;
 pub mod eclipse;
@@ -19,6 +18,7 @@ pub mod moon;
 pub mod record;
 pub mod records;
 pub mod refusal;
+pub mod replies;
 pub mod rounding;
 pub mod run;
 pub mod runs;

@@ -1,7 +1,7 @@
 //! The peer's program: prints what the programs are expected to print.
 
 use peer::calendar::{self, Calendar};
-use peer::{answers, figures, instants, lines, months, records, runs, worked};
+use peer::{figures, instants, lines, months, records, replies, runs, worked};
 use std::env;
 use std::process::ExitCode;
 
@@ -14,7 +14,7 @@ fn main() -> ExitCode {
     match words[..] {
         ["year", calendar, year] => print_year(calendar, year),
         ["years"] => print_years(),
-        ["answers"] => print_answers(),
+        ["replies"] => print_replies(),
         ["eclipses"] => print_eclipses(),
         ["instants"] => print_instants(),
         ["records"] => print_records(),
@@ -45,9 +45,9 @@ fn print_years() -> ExitCode {
     ExitCode::SUCCESS
 }
 
-fn print_answers() -> ExitCode {
-    for input in answers::INPUTS {
-        print!("{}", answers::answer(input));
+fn print_replies() -> ExitCode {
+    for input in replies::INPUTS {
+        print!("{}", replies::answer(input));
     }
     ExitCode::SUCCESS
 }
@@ -96,7 +96,7 @@ fn print_worked() -> ExitCode {
 fn usage() -> ExitCode {
     eprintln!(
         "usage: peer year CALENDAR YEAR | peer COMMAND\n\
-         COMMAND: years, answers, eclipses, instants, records, runs, figures or worked"
+         COMMAND: years, replies, eclipses, instants, records, runs, figures or worked"
     );
     ExitCode::from(2)
 }

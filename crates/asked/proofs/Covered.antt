@@ -4,9 +4,9 @@ use mathlib.Core.Bool.{Bool, true, and-eq-true-iff}
 use Prim.Native.Nat.{ℕ, _+_, _≤_, _^_}
 use native.Mathlib.Omega.{arith}
 use lib.Dec.{leb}
-use borrow.Author.Tests.{leb-true}
-use Rattle.numbers.specs.Answer.{given}
-use Rattle.numbers.proofs.Answers.{one-given, gives}
+use borrow.Author.Tests.{leb-true, le-leb}
+use Rattle.answers.specs.Answer.{given}
+use Rattle.answers.proofs.Conditions.{given-exactly}
 use Rattle.months.specs.declared.Calendar.{Calendar}
 use Rattle.months.specs.declared.Begun.{Begun}
 use Rattle.months.specs.Rules.{Rules, rulesOf}
@@ -16,9 +16,9 @@ use Rattle.months.specs.Room.{Covering, Starting}
 use Rattle.months.proofs.Calendars.{steady}
 use Rattle.months.proofs.CoveredYears.{covered-year, edges, its-days, starts-covered, ends-covered, covering}
 use Rattle.asked.specs.Room.{inYear, CoveredYear, CoveredMonth}
-use Rattle.asked.proofs.Steps.{in-time}
 use Rattle.asked.proofs.Given.{asked-given, moon-given, month-given}
-use Rattle.asked.proofs.Names.{Named, named, NextTerm, next-term}
+use Rattle.asked.specs.Names.{Named, NextTerm}
+use Rattle.asked.proofs.Names.{named, next-term}
 use Rattle.asked.specs.Asked.{numbered, rulesFor, isCovered, hasMonth, monthNamed, yearAsked, moonAsked, monthAsked}
 
 pub covered-year-told : (r : Rules) (y : ℕ) → isCovered r y ≡ true → CoveredYear r y
@@ -27,13 +27,13 @@ covered-year-told r y h =
     record { from = leb-true _ _ low; to = leb-true _ _ high }
 
 pub covered-year-tested : (r : Rules) (y : ℕ) → CoveredYear r y → isCovered r y ≡ true
-covered-year-tested r y h = in-time r y (h .from) (h .to)
+covered-year-tested r y h = rw (le-leb _ _ (h .from), le-leb _ _ (h .to))
 
 -- a year that is asked for and known is covered
 pub asked-covered : (c y : ℕ) (k : Calendar) (x : ℕ) → yearAsked c y ≡ given (k, x) → CoveredYear (rulesOf k) x
 asked-covered c y k x e =
     let g = asked-given c y (k, x) .only-if e in
-    subst (λ (a : Calendar × ℕ). CoveredYear (rulesOf (a .0)) (a .1)) (one-given (numbered c, y) (k, x) (g .1 .1)) (covered-year-told (rulesFor c) y (g .1 .0))
+    subst (λ (a : Calendar × ℕ). CoveredYear (rulesOf (a .0)) (a .1)) (g .1) (covered-year-told (rulesFor c) y (g .0 .1 .0))
 
 -- ---- the month that is asked for is covered
 
@@ -51,9 +51,8 @@ module _ (c : Calendar) (y : ℕ) (covered : CoveredYear (rulesOf c) y) where
   named-covered m leap a e =
       let r = rulesOf c in
       let k = monthNamed r y m leap in
-      let (has, same) = gives 3 (given (c, begun r k)) (hasMonth r y m leap) a .only-if e in
-      subst (λ (a : Calendar × Begun). CoveredMonth r (a .1)) (one-given (c, begun r k) a same)
-      (record { own = refl; covering = month-covering k (name-found m leap has .of-year) })
+      let g = given-exactly _ _ a .only-if e in
+      subst (λ (a : Calendar × Begun). CoveredMonth r (a .1)) (g .1) (record { own = refl; covering = month-covering k (name-found m leap (g .0 .0) .of-year) })
 
 -- the days of a covered month
 pub record MonthRoom (r : Rules) (b : Begun) : Type 0 where
@@ -97,18 +96,18 @@ module _ (c y m : ℕ) (leap : Bool) where
   pub asked-moon-covered : (a : Calendar × ℕ) → moonAsked c y m leap ≡ given a → Covering (rulesOf (a .0)) (a .1)
   asked-moon-covered a e =
       let g = moon-given c y m leap a .only-if e in
-      subst (λ (a : Calendar × ℕ). Covering (rulesOf (a .0)) (a .1)) (one-given (numbered c, its-month) a (g .1 .1 .1)) (its-covering (g .1 .0) (g .1 .1 .0))
+      subst (λ (a : Calendar × ℕ). Covering (rulesOf (a .0)) (a .1)) (g .1) (its-covering (g .0 .1 .0) (g .0 .1 .1 .0))
 
   module _ (d : ℕ) (a : Calendar × Begun) (e : monthAsked c y m leap d ≡ given a) where
     pub asked-month-covered : CoveredMonth (rulesOf (a .0)) (a .1)
     asked-month-covered =
         let g = month-given c y m leap d a .only-if e in
-        subst (λ (a : Calendar × Begun). CoveredMonth (rulesOf (a .0)) (a .1)) (one-given (numbered c, begun its-rules its-month) a (g .1 .1 .1 .1))
-        (record { own = refl; covering = its-covering (g .1 .0) (g .1 .1 .0) })
+        subst (λ (a : Calendar × Begun). CoveredMonth (rulesOf (a .0)) (a .1)) (g .1)
+        (record { own = refl; covering = its-covering (g .0 .1 .0) (g .0 .1 .1 .0) })
 
     -- the day is one of 1 to 30
     pub asked-day : (1 ≤ d) × (d ≤ 30)
     asked-day =
         let g = month-given c y m leap d a .only-if e in
-        let (low, high) = and-eq-true-iff (leb 1 d) (leb d (monthLength its-rules its-month)) .0 (g .1 .1 .1 .0) in
-        (leb-true _ _ low, omega (arith, leb-true d _ high, its-days (numbered c) its-month (its-covering (g .1 .0) (g .1 .1 .0)) .at-most))
+        let (low, high) = and-eq-true-iff (leb 1 d) (leb d (monthLength its-rules its-month)) .0 (g .0 .1 .1 .1 .0) in
+        (leb-true _ _ low, omega (arith, leb-true d _ high, its-days (numbered c) its-month (its-covering (g .0 .1 .0) (g .0 .1 .1 .0)) .at-most))

@@ -2,7 +2,7 @@
 use mathlib.Core.Path.{_≡_, ap}
 use Prim.Native.Nat.{ℕ}
 use Rattle.numbers.specs.OneResult.{OneResult}
-use Rattle.numbers.proofs.Answers.{one-given}
+use Rattle.answers.proofs.Answers.{one-given}
 use Rattle.numbers.proofs.OneResult.{one}
 use Rattle.months.specs.declared.Calendar.{Calendar}
 use Rattle.months.specs.declared.Begun.{Begun}

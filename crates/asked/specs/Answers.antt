@@ -1,6 +1,6 @@
 -- What each answer stands for: what was asked for, or the refusal's number.
 use Prim.Native.Nat.{ℕ}
-use Rattle.numbers.specs.Answer.{Answer, given, refused}
+use Rattle.answers.specs.Answer.{Answer, given, refused}
 use Rattle.months.specs.declared.Calendar.{Calendar}
 use Rattle.months.specs.declared.Begun.{Begun}
 use Rattle.asked.specs.declared.CalendarAsked.{CalendarAsked}

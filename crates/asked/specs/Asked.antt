@@ -1,8 +1,10 @@
 -- What a call asks for: a calendar, a year, a month, the month of a date, each with the refusals up to it (01, "Refusal numbers").
 use mathlib.Core.Bool.{Bool, true, false, _&&_, _||_}
+use mathlib.Core.List.{List, [], _∷_, _++_}
 use Prim.Native.Nat.{ℕ, _+_, _-_}
 use lib.Dec.{eqb, leb}
-use Rattle.numbers.specs.Answer.{Answer, given, need}
+use Rattle.answers.specs.Answer.{Answer}
+use Rattle.answers.specs.Conditions.{asking}
 use Rattle.months.specs.declared.Calendar.{Calendar}
 use Rattle.months.specs.declared.Calendar.the-variants.{Senmyo, Genka}
 use Rattle.months.specs.declared.Begun.{Begun}
@@ -40,23 +42,41 @@ hasMonth r y m leap = (leb 1 m && leb m 12) && elim leap [ true ↦ isLeap r (re
 abbrev pub hasDay : Rules → ℕ → ℕ → Bool
 hasDay r k d = leb 1 d && leb d (monthLength r k)
 
--- the calendar that is asked for, or the refusal
-abbrev pub calendarOf : ℕ → Answer Calendar
-calendarOf c = need (isCalendar c) 1 (given (numbered c))
+-- ---- the conditions, each with its refusal
+
+abbrev pub calendarConditions : ℕ → List (Bool × ℕ)
+calendarConditions c =
+    (isCalendar c, 1) ∷ []
+
+abbrev pub yearConditions : ℕ → ℕ → List (Bool × ℕ)
+yearConditions c y =
+    calendarConditions c ++
+    (isCovered (rulesFor c) y, 2) ∷ []
+
+abbrev pub monthConditions : ℕ → ℕ → ℕ → Bool → List (Bool × ℕ)
+monthConditions c y m leap =
+    yearConditions c y ++
+    (hasMonth (rulesFor c) y m leap, 3) ∷ []
+
+abbrev pub dayConditions : ℕ → ℕ → ℕ → Bool → ℕ → List (Bool × ℕ)
+dayConditions c y m leap d =
+    monthConditions c y m leap ++
+    (hasDay (rulesFor c) (monthNamed (rulesFor c) y m leap) d, 4) ∷ []
+
+-- ---- what is asked for, or the refusal
+
+-- the calendar
+unfoldable pub calendarOf : ℕ → Answer Calendar
+calendarOf c = asking (calendarConditions c) (numbered c)
 
 -- .. and the year
 unfoldable pub yearAsked : ℕ → ℕ → Answer (Calendar × ℕ)
-yearAsked c y = need (isCalendar c) 1 (need (isCovered (rulesFor c) y) 2 (given (numbered c, y)))
+yearAsked c y = asking (yearConditions c y) (numbered c, y)
 
 -- .. and the month whose moons are asked for, by the number of its new moon
 unfoldable pub moonAsked : ℕ → ℕ → ℕ → Bool → Answer (Calendar × ℕ)
-moonAsked c y m leap =
-    let r : Rules = rulesFor c in
-    need (isCalendar c) 1 (need (isCovered r y) 2 (need (hasMonth r y m leap) 3 (given (numbered c, monthNamed r y m leap))))
+moonAsked c y m leap = asking (monthConditions c y m leap) (numbered c, monthNamed (rulesFor c) y m leap)
 
 -- .. and the month of a date, with its first day
 unfoldable pub monthAsked : ℕ → ℕ → ℕ → Bool → ℕ → Answer (Calendar × Begun)
-monthAsked c y m leap d =
-    let r : Rules = rulesFor c in
-    let k : ℕ = monthNamed r y m leap in
-    need (isCalendar c) 1 (need (isCovered r y) 2 (need (hasMonth r y m leap) 3 (need (hasDay r k d) 4 (given (numbered c, begun r k)))))
+monthAsked c y m leap d = asking (dayConditions c y m leap d) (numbered c, begun (rulesFor c) (monthNamed (rulesFor c) y m leap))

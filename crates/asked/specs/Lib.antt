@@ -1,3 +1,4 @@
 pub mod Asked
+pub mod Names
 pub mod Answers
 pub mod Room

@@ -1,8 +1,10 @@
 -- What an inner function finds, and what is known of a year and of a month that were asked for and found. No rule of the calendar.
 use mathlib.Core.Path.{_≡_}
 use mathlib.Core.Bool.{Bool}
+use mathlib.Core.List.{[], _∷_}
 use Prim.Native.Nat.{ℕ, _≤_}
-use Rattle.numbers.specs.Answer.{Answer, given, need}
+use Rattle.answers.specs.Answer.{Answer}
+use Rattle.answers.specs.Conditions.{asking}
 use Rattle.months.specs.declared.Calendar.{Calendar}
 use Rattle.months.specs.declared.Begun.{Begun}
 use Rattle.months.specs.Rules.{Rules, rulesOf}
@@ -16,7 +18,7 @@ moonNumber r k = k
 
 -- what is told of the month that is named in a year, or the refusal
 abbrev pub inYear : {A : Type 0} → (Rules → ℕ → A) → Calendar → ℕ → ℕ → Bool → Answer (Calendar × A)
-inYear what c y m leap = need (hasMonth (rulesOf c) y m leap) 3 (given (c, what (rulesOf c) (monthNamed (rulesOf c) y m leap)))
+inYear what c y m leap = asking ((hasMonth (rulesOf c) y m leap, 3) ∷ []) (c, what (rulesOf c) (monthNamed (rulesOf c) y m leap))
 
 -- year y is covered
 pub record CoveredYear (r : Rules) (y : ℕ) : Type 0 where

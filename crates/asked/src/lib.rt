@@ -1,7 +1,7 @@
 ghost use mathlib.Core.Path.{_≡_};
 ghost use mathlib.Core.Bool.{true};
 ghost use Prim.Native.Nat.{_+_, _≤_};
-ghost use Rattle.numbers.specs.Answer.{refusalIn};
+ghost use Rattle.answers.specs.Answer.{refusalIn};
 ghost use Rattle.months.specs.Rules.{rulesOf};
 ghost use Rattle.months.specs.Months.{begun, monthWith};
 ghost use Rattle.asked.specs.Asked.{hasDay, calendarOf, yearAsked, moonAsked, monthAsked};

@@ -1,19 +1,19 @@
 -- Refusals have small numbers, and covered days and years large ones, so that one number can tell which it is.
-use mathlib.Core.Path.{_≡_}
+use mathlib.Core.Path.{_≡_, refl}
 use mathlib.Core.Bool.{Bool}
 use Prim.Native.Nat.{ℕ, _+_, _<_, _≤_}
 use native.Mathlib.Omega.{arith}
-use Rattle.numbers.specs.Answer.{given, refused}
-use Rattle.numbers.proofs.Answers.{small, not-refused}
+use Rattle.answers.specs.Answer.{given, refused}
+use Rattle.answers.proofs.Conditions.{small-refused}
 use Rattle.months.specs.declared.Calendar.{Calendar}
 use Rattle.months.specs.declared.Calendar.the-variants.{Senmyo, Genka}
 use Rattle.months.specs.Rules.{rulesOf}
 use Rattle.months.proofs.Figures.{senmyo-opens, genka-opens}
-use Rattle.asked.specs.Asked.{isCalendar, numbered, rulesFor, isCovered, hasMonth, monthNamed, hasDay}
+use Rattle.asked.specs.Asked.{numbered, rulesFor, dayConditions}
 use Rattle.asked.specs.Room.{CoveredYear}
 use Rattle.asked.proofs.Covered.{covered-year-told}
 use Rattle.calendar.specs.declared.Date.{Date}
-use Rattle.calendar.specs.Dates.{dayOf, isCoveredDay, dateOf}
+use Rattle.calendar.specs.Dates.{dayOf, dateConditions, dateOf}
 use Rattle.calendar.specs.Room.{CoveredDay}
 use Rattle.calendar.proofs.Covered.{covered-day-told}
 use Rattle.calendar.proofs.Refusals.{day-given, date-given}
@@ -29,15 +29,10 @@ covered-large Genka n h = omega (arith, h .from, genka-opens)
 module _ (c y m : ℕ) (leap : Bool) (d n : ℕ) where
   pub day-refusal-small : dayOf c y m leap d ≡ refused n → n < 100
   unfolding dayOf
-  day-refusal-small =
-      small 1 _ (isCalendar c) n 100 (omega arith)
-      (small 2 _ (isCovered (rulesFor c) y) n 100 (omega arith)
-      (small 3 _ (hasMonth (rulesFor c) y m leap) n 100 (omega arith)
-      (small 4 _ (hasDay (rulesFor c) (monthNamed (rulesFor c) y m leap) d) n 100 (omega arith)
-      (λ e. absurd (not-refused n _ e)))))
+  day-refusal-small = small-refused (dayConditions c y m leap d) _ n 100 refl
 
   pub day-large : dayOf c y m leap d ≡ given n → 100 ≤ n
-  day-large e = covered-large (numbered c) n (covered-day-told (numbered c) n (date-given c n _ .only-if (date-of-day-of c y m leap d n e) .1 .0))
+  day-large e = covered-large (numbered c) n (covered-day-told (numbered c) n (date-given c n _ .only-if (date-of-day-of c y m leap d n e) .0 .1 .0))
 
 -- ---- a day's date
 
@@ -49,9 +44,9 @@ first-large Genka y h = omega (arith, h .from)
 module _ (c n : ℕ) where
   pub date-refusal-small : (m : ℕ) → dateOf c n ≡ refused m → m < 100
   unfolding dateOf
-  date-refusal-small m =
-      small 1 _ (isCalendar c) m 100 (omega arith) (small 5 _ (isCoveredDay (rulesFor c) n) m 100 (omega arith) (λ e. absurd (not-refused m _ e)))
+  date-refusal-small m = small-refused (dateConditions c n) _ m 100 refl
 
   pub date-year-large : (t : Date) → dateOf c n ≡ given t → 445 ≤ t .year
   date-year-large t e =
-      first-large (numbered c) (t .year) (covered-year-told (rulesFor c) (t .year) (day-given c (t .year) (t .month) (t .leap) (t .day) n .only-if (day-of-date-of c n t e) .1 .0))
+      let g = day-given c (t .year) (t .month) (t .leap) (t .day) n .only-if (day-of-date-of c n t e) in
+      first-large (numbered c) (t .year) (covered-year-told (rulesFor c) (t .year) (g .0 .1 .0))

@@ -9,7 +9,7 @@ use Rattle.numbers.proofs.Spans.{Together, together}
 use Rattle.months.specs.declared.Calendar.{Calendar}
 use Rattle.months.specs.Rules.{Rules, rulesOf}
 use Rattle.months.specs.Months.{monthOf, begun, firstMonth, monthCount, firstDay, nextFirstDay}
-use Rattle.months.specs.Year.{TwelveOrThirteen, twelve, thirteen, Year}
+use Rattle.months.specs.Year.{TwelveOrThirteen, twelve, thirteen, DemandedYear}
 use Rattle.months.proofs.CoveredYears.{covered-year, edges, covering, covering-day}
 use Rattle.asked.specs.Room.{CoveredYear, CoveredMonth}
 use Rattle.calendar.specs.Dates.{coveredDays, isCoveredDay}
@@ -39,7 +39,7 @@ pub record YearRoom (r : Rules) (y : ℕ) : Type 0 where
 pub year-room : (c : Calendar) (y : ℕ) → CoveredYear (rulesOf c) y → YearRoom (rulesOf c) y
 year-room c y covered = by-count (year .months)
   where
-    year : Year (rulesOf c) y
+    year : DemandedYear (rulesOf c) y
     year = covered-year c y (covered .from) (covered .to)
 
     room : (n : ℕ) → 12 ≤ n → n ≤ 13 → monthCount (rulesOf c) y ≡ n → YearRoom (rulesOf c) y

@@ -1,11 +1,12 @@
 -- The calls' definitions at 01's worked figures and edges.
-use mathlib.Core.Path.{_≡_, refl, ap, _∙_}
+use mathlib.Core.Path.{_≡_, refl, ap, fun-ext}
 use mathlib.Core.Bool.{true, false}
 use mathlib.Core.List.{[], _∷_}
-use Prim.Native.Nat.{ℕ, zero, suc, _+_, _-_, _*_, _/_, _^_}
+use Prim.Native.Nat.{ℕ, _+_, _-_, _*_, _/_, _^_}
 use native.Mathlib.Omega.{arith}
 use lib.Dec.{ltb}
-use Rattle.numbers.specs.Answer.{given, refused}
+use Rattle.answers.specs.Answer.{given, refused}
+use Rattle.answers.specs.Conditions.{asking}
 use Rattle.numbers.specs.Spans.{Holds}
 use Rattle.numbers.specs.Places.{places}
 use Rattle.months.specs.Rules.{Rules, senmyo, genka, rulesOf, dayNumber}
@@ -18,7 +19,7 @@ use Rattle.means.specs.Means.{midTerm}
 use Rattle.senmyo.proofs.Worked.{dayAt}
 use Rattle.units.specs.Units.{dayByo}
 use Rattle.calendar.specs.declared.Month.{Month}
-use Rattle.calendar.specs.Dates.{dayOf, dateOf, cycle}
+use Rattle.calendar.specs.Dates.{dayOf, dateOf}
 use Rattle.calendar.specs.Years.{listed, noMonth, leapNumber, yearIn, yearOf}
 use Rattle.calendar.proofs.OneDate.{date-of-day-of}
 
@@ -37,18 +38,14 @@ module _ (r : Rules) (s : Steady r) (term : ℕ → ℕ) (last : (d : ℕ) → H
       let (number, leap) = name-told r s k (term (r .start (k + 1) - 1)) (last _) in
       rw (number, leap)
 
+  all-worked : (λ k. listed r k) ≡ worked r term
+  all-worked = fun-ext listed-worked
+
   places-worked : (k count n : ℕ) → places noMonth (listed r) k count n ≡ places noMonth (worked r term) k count n
-  unfolding places
-  places-worked k count zero = refl
-  places-worked k zero (suc n) = rw (places-worked k zero n)
-  places-worked k (suc count) (suc n) = rw (listed-worked k, places-worked (k + 1) count n)
+  places-worked k count n = ap (λ month. places noMonth month k count n) all-worked
 
   leap-worked : (k count : ℕ) → leapNumber (listed r) k count ≡ leapNumber (worked r term) k count
-  unfolding leapNumber
-  leap-worked k zero = refl
-  leap-worked k (suc count) =
-      ap (λ (m : Month). elim (m .leap) [ true ↦ m .number | false ↦ leapNumber (listed r) k count ]) (listed-worked (k + count))
-      ∙ ap (λ (n : ℕ). elim (worked r term (k + count) .leap) [ true ↦ worked r term (k + count) .number | false ↦ n ]) (leap-worked k count)
+  leap-worked k count = ap (λ month. leapNumber month k count) all-worked
 
 abbrev month : ℕ → ℕ → ℕ → Month
 month number length first = record { number = number; leap = false; length = length; «first_day» = first }
@@ -62,14 +59,14 @@ senmyoTerm d = (dayByo * (d + 1) - 1) / midTerm 1 .0
 
 senmyo-term : (d : ℕ) → Holds (senmyo .mid) (senmyoTerm d) d
 unfolding senmyoTerm
-senmyo-term d = record { from = omega arith; to = omega arith }
+senmyo-term d = omega arith
 
 genkaTerm : ℕ → ℕ
 genkaTerm d = (7296 * (d + 1) - 1) / 222070
 
 genka-term : (d : ℕ) → Holds (genka .mid) (genkaTerm d) d
 unfolding genkaTerm
-genka-term d = record { from = omega arith; to = omega arith }
+genka-term d = omega arith
 
 -- 1522, as the program prints it
 pub months-1522 : yearOf 1 1522 ≡
@@ -93,7 +90,7 @@ pub months-1522 : yearOf 1 1522 ≡
           month 12 30 2277320 ∷
           noMonth ∷ [];
     })
-unfolding yearOf rulesOf yearIn places leapNumber worked senmyoTerm dayAt
+unfolding asking yearOf rulesOf yearIn places leapNumber worked senmyoTerm dayAt
 months-1522 =
     rw
     (first-1522, first-1523, places-worked senmyo senmyo-steady senmyoTerm senmyo-term 87454578 12 13, leap-worked senmyo senmyo-steady senmyoTerm senmyo-term 87454578 12)
@@ -120,117 +117,64 @@ pub months-643 : yearOf 2 643 ≡
           month 11 30 1956263 ∷
           month 12 29 1956293 ∷ [];
     })
-unfolding yearOf rulesOf yearIn places leapNumber worked genkaTerm
+unfolding asking yearOf rulesOf yearIn places leapNumber worked genkaTerm
 months-643 =
     rw
     (first-643, first-644, places-worked genka genka-steady genkaTerm genka-term 73010 13 13, leap-worked genka genka-steady genkaTerm genka-term 73010 13)
 
 -- ---- dates and days
 
--- 643 month 5 day 16 is 1956072, cycle 1
+-- 643 month 5 day 16 is 1956072
 pub day-643 : dayOf 2 643 5 false 16 ≡ given 1956072
-unfolding dayOf rulesOf
+unfolding asking dayOf rulesOf
 day-643 = rw (month-with genka genka-steady 73014 (genka .rainWater 643 + 4) tt)
 
 date-643 : dateOf 2 1956072 ≡ given (record { year = 643; month = 5; leap = false; day = 16 })
 date-643 = date-of-day-of 2 643 5 false 16 1956072 day-643
 
-cycle-643 : cycle 1956072 ≡ 1
-cycle-643 = refl
-
 -- the last day of its leap month
 pub leap-643 : dayOf 2 643 7 true 30 ≡ given 1956174
-unfolding dayOf rulesOf worked genkaTerm
+unfolding asking dayOf rulesOf worked genkaTerm
 leap-643 =
     let is-leap : isLeap genka 73017 ≡ true = ap (λ (m : Month). m .leap) (listed-worked genka genka-steady genkaTerm genka-term 73017) in
     rw (month-with genka genka-steady 73016 (genka .rainWater 643 + 6) tt, is-leap)
 
 -- the first and the last covered day of each calendar
-first-of-senmyo : dayOf 1 822 1 false 1 ≡ given 2021320
-unfolding dayOf rulesOf dayAt
-first-of-senmyo = rw (month-with senmyo senmyo-steady 87445920 (senmyo .rainWater 822) tt)
-
-last-of-senmyo : dayOf 1 1684 12 false 30 ≡ given 2336528
-unfolding dayOf rulesOf dayAt
-last-of-senmyo = rw (month-with senmyo senmyo-steady 87456593 (senmyo .rainWater 1684 + 11) tt)
-
-first-of-genka : dayOf 2 445 1 false 1 ≡ given 1883618
-unfolding dayOf rulesOf
-first-of-genka = rw (month-with genka genka-steady 70561 (genka .rainWater 445) tt)
-
-last-of-genka : dayOf 2 697 12 false 30 ≡ given 1976048
-unfolding dayOf rulesOf
-last-of-genka = rw (month-with genka genka-steady 73690 (genka .rainWater 697 + 11) tt)
+outermost-dates : (dayOf 1 822 1 false 1 ≡ given 2021320) × (dayOf 1 1684 12 false 30 ≡ given 2336528) ×
+    (dayOf 2 445 1 false 1 ≡ given 1883618) × (dayOf 2 697 12 false 30 ≡ given 1976048)
+unfolding asking dayOf rulesOf dayAt
+outermost-dates = (
+  rw (month-with senmyo senmyo-steady 87445920 (senmyo .rainWater 822) tt),
+  rw (month-with senmyo senmyo-steady 87456593 (senmyo .rainWater 1684 + 11) tt),
+  rw (month-with genka genka-steady 70561 (genka .rainWater 445) tt),
+  rw (month-with genka genka-steady 73690 (genka .rainWater 697 + 11) tt),
+)
 
 -- ---- edges
 
 -- 1: no such calendar
-calendar-0 : yearOf 0 1522 ≡ refused 1
-unfolding yearOf
-calendar-0 = refl
-
-calendar-3 : dayOf 3 1522 1 false 1 ≡ refused 1
-unfolding dayOf
-calendar-3 = refl
-
-calendar-largest : dateOf (2 ^ 64 - 1) 2276996 ≡ refused 1
-unfolding dateOf
-calendar-largest = refl
+unknown-calendars : (yearOf 0 1522 ≡ refused 1) × (dayOf 3 1522 1 false 1 ≡ refused 1) × (dateOf (2 ^ 64 - 1) 2276996 ≡ refused 1)
+unfolding asking yearOf dayOf dateOf
+unknown-calendars = (refl, refl, refl)
 
 -- 2: the years before the first and after the last
-year-821 : yearOf 1 821 ≡ refused 2
-unfolding yearOf rulesOf
-year-821 = refl
-
-year-1685 : yearOf 1 1685 ≡ refused 2
-unfolding yearOf rulesOf
-year-1685 = refl
-
-year-444 : yearOf 2 444 ≡ refused 2
-unfolding yearOf rulesOf
-year-444 = refl
-
-year-698 : yearOf 2 698 ≡ refused 2
-unfolding yearOf rulesOf
-year-698 = refl
+years-outside : (yearOf 1 821 ≡ refused 2) × (yearOf 1 1685 ≡ refused 2) × (yearOf 2 444 ≡ refused 2) × (yearOf 2 698 ≡ refused 2)
+unfolding asking yearOf rulesOf
+years-outside = (refl, refl, refl, refl)
 
 -- 3: months 0 and 13, and a leap month that the year lacks
-month-0 : dayOf 1 1522 0 false 1 ≡ refused 3
-unfolding dayOf rulesOf
-month-0 = refl
-
-month-13 : dayOf 1 1522 13 false 1 ≡ refused 3
-unfolding dayOf rulesOf
-month-13 = refl
-
-leap-1522 : dayOf 1 1522 1 true 1 ≡ refused 3
-unfolding dayOf rulesOf worked senmyoTerm dayAt
-leap-1522 =
+months-lacking : (dayOf 1 1522 0 false 1 ≡ refused 3) × (dayOf 1 1522 13 false 1 ≡ refused 3) × (dayOf 1 1522 1 true 1 ≡ refused 3)
+unfolding asking dayOf rulesOf worked senmyoTerm dayAt
+months-lacking =
     let not-leap : isLeap senmyo 87454579 ≡ false = ap (λ (m : Month). m .leap) (listed-worked senmyo senmyo-steady senmyoTerm senmyo-term 87454579) in
-    rw (month-with senmyo senmyo-steady 87454578 (senmyo .rainWater 1522) tt, not-leap)
+    (refl, refl, rw (month-with senmyo senmyo-steady 87454578 (senmyo .rainWater 1522) tt, not-leap))
 
 -- 4: day 0, and the day past a month of 29
-day-0 : dayOf 1 1522 1 false 0 ≡ refused 4
-unfolding dayOf rulesOf
-day-0 = refl
-
-day-30 : dayOf 1 1522 1 false 30 ≡ refused 4
-unfolding dayOf rulesOf dayAt
-day-30 = rw (month-with senmyo senmyo-steady 87454578 (senmyo .rainWater 1522) tt)
+days-lacking : (dayOf 1 1522 1 false 0 ≡ refused 4) × (dayOf 1 1522 1 false 30 ≡ refused 4)
+unfolding asking dayOf rulesOf dayAt
+days-lacking = (refl, rw (month-with senmyo senmyo-steady 87454578 (senmyo .rainWater 1522) tt))
 
 -- 5: the day before the first covered day, and the day after the last
-before-senmyo : dateOf 1 2021319 ≡ refused 5
-unfolding dateOf rulesOf
-before-senmyo = rw senmyo-opens
-
-after-senmyo : dateOf 1 2336529 ≡ refused 5
-unfolding dateOf rulesOf
-after-senmyo = rw (senmyo-opens, senmyo-ends)
-
-before-genka : dateOf 2 1883617 ≡ refused 5
-unfolding dateOf rulesOf
-before-genka = rw genka-opens
-
-after-genka : dateOf 2 1976049 ≡ refused 5
-unfolding dateOf rulesOf
-after-genka = rw (genka-opens, genka-ends)
+days-outside : (dateOf 1 2021319 ≡ refused 5) × (dateOf 1 2336529 ≡ refused 5) × (dateOf 2 1883617 ≡ refused 5) × (dateOf 2 1976049 ≡ refused 5)
+unfolding asking dateOf rulesOf
+days-outside = (rw senmyo-opens, rw (senmyo-opens, senmyo-ends), rw genka-opens, rw (genka-opens, genka-ends))

@@ -5,6 +5,7 @@ pub mod OneDate
 pub mod Apart
 pub mod Listed
 pub mod YearLaws
+pub mod Demand
 pub mod FirstDays
 pub mod OneAnswer
 pub mod Figures

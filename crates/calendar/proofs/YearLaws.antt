@@ -2,11 +2,9 @@
 -- the month that has no mid-term.
 use mathlib.Core.Path.{_≡_, refl, sym, _∙_}
 use mathlib.Core.Bool.{true, false}
-use mathlib.Core.List.{List, [], _∷_}
 use Prim.Native.Nat.{ℕ, zero, suc, _+_, _-_, _<_, _≤_}
 use native.Mathlib.Omega.{arith}
 use borrow.Author.Tests.{lt-ltb}
-use lib.Dec.{ltb}
 use lib.ListN.{getD}
 use Rattle.numbers.specs.Places.{places}
 use Rattle.numbers.proofs.Places.{at-place}
@@ -21,17 +19,8 @@ use Rattle.months.proofs.CoveredYears.{covered-year}
 use Rattle.asked.specs.Room.{CoveredYear}
 use Rattle.calendar.specs.declared.Month.{Month}
 use Rattle.calendar.specs.Years.{listed, noMonth, leapNumber, yearIn}
+use Rattle.calendar.specs.Demand.{daysOf, usedOf}
 use Rattle.calendar.proofs.Covered.{year-room}
-
--- the days of all places together
-unfoldable pub daysOf : List Month → ℕ
-daysOf [] = 0
-daysOf (m ∷ ms) = m .length + daysOf ms
-
--- how many places are used: no month has number 0
-unfoldable pub usedOf : List Month → ℕ
-usedOf [] = 0
-usedOf (m ∷ ms) = elim (ltb 0 (m .number)) [ true ↦ 1 + usedOf ms | false ↦ usedOf ms ]
 
 module _ (r : Rules) (s : Steady r) where
   days-add-up : (k count n : ℕ) → count ≤ n → r .start k + daysOf (places noMonth (listed r) k count n) ≡ r .start (k + count)
@@ -52,28 +41,30 @@ module _ (r : Rules) (s : Steady r) where
   places-used k zero zero h = refl
   places-used k zero (suc n) h = places-used k zero n (omega arith)
   places-used k (suc count) zero h = absurd (omega (arith, h))
-  places-used k (suc count) (suc n) h = rw (lt-ltb 0 (numberOf r k) (numbered k), usedOf) (omega (arith, places-used (k + 1) count n (omega (arith, h))))
+  places-used k (suc count) (suc n) h =
+      rw (lt-ltb 0 (numberOf r k) (numbered k), usedOf) (omega (arith, places-used (k + 1) count n (omega arith)))
 
 module _ (c : Calendar) (y : ℕ) (covered : CoveredYear (rulesOf c) y) where
+  abbrev r : Rules
+  r = rulesOf c
+
   -- the months' lengths add up to the year's days
-  pub days-are-lengths : yearIn (rulesOf c) y .days ≡ daysOf (yearIn (rulesOf c) y .months)
+  pub days-are-lengths : yearIn r y .days ≡ daysOf (yearIn r y .months)
   unfolding yearIn
   days-are-lengths =
-      let r = rulesOf c in
       let room = year-room c y covered in
-      let on : firstMonth r y + monthCount r y ≡ firstMonth r (y + 1) = omega (arith, room .at-least) in
-      let sum = rw on at (days-add-up r (steady c) (firstMonth r y) (monthCount r y) 13 (omega (arith, room .at-most))) in
-      omega (arith, sum)
+      let on : firstMonth r y + monthCount r y ≡ firstMonth r (y + 1) = omega arith in
+      omega (arith, rw on at (days-add-up r (steady c) (firstMonth r y) (monthCount r y) 13 (omega arith)))
 
   -- the count is the number of months listed
-  pub count-is-used : yearIn (rulesOf c) y .count ≡ usedOf (yearIn (rulesOf c) y .months)
+  pub count-is-used : yearIn r y .count ≡ usedOf (yearIn r y .months)
   unfolding yearIn
-  count-is-used = sym (places-used (rulesOf c) (steady c) (firstMonth (rulesOf c) y) (monthCount (rulesOf c) y) 13 (omega (arith, year-room c y covered .at-most)))
+  count-is-used = sym (places-used r (steady c) (firstMonth r y) (monthCount r y) 13 (omega (arith, year-room c y covered .at-most)))
 
   -- what stands at a place of its months
-  pub listed-at : (i : ℕ) (d : Month) → i < monthCount (rulesOf c) y → getD (yearIn (rulesOf c) y .months) i d ≡ listed (rulesOf c) (firstMonth (rulesOf c) y + i)
+  pub listed-at : (i : ℕ) (d : Month) → i < monthCount r y → getD (yearIn r y .months) i d ≡ listed r (firstMonth r y + i)
   unfolding yearIn
-  listed-at i d h = at-place noMonth (listed (rulesOf c)) (firstMonth (rulesOf c) y) (monthCount (rulesOf c) y) 13 i d h (omega (arith, year-room c y covered .at-most))
+  listed-at i d h = at-place noMonth (listed r) (firstMonth r y) (monthCount r y) 13 i d h (omega (arith, year-room c y covered .at-most))
 
 -- ---- the leap number
 
@@ -83,7 +74,8 @@ module _ (r : Rules) (k : ℕ) where
   none-leap zero h = refl
   none-leap (suc n) h = rw (h n (omega arith), leapNumber) (none-leap n (λ i l. h i (omega (arith, l))))
 
-  one-leap : (l n : ℕ) → isLeap r (k + l) ≡ true → ((i : ℕ) → l < i → i < l + 1 + n → isLeap r (k + i) ≡ false) → leapNumber (listed r) k (l + 1 + n) ≡ numberOf r (k + l)
+  one-leap : (l n : ℕ) → isLeap r (k + l) ≡ true → ((i : ℕ) → l < i → i < l + 1 + n → isLeap r (k + i) ≡ false) →
+      leapNumber (listed r) k (l + 1 + n) ≡ numberOf r (k + l)
   unfolding leapNumber
   one-leap l zero e h = let last : l + 1 + 0 ≡ suc l = omega arith in rw (last, e, leapNumber)
   one-leap l (suc n) e h =

@@ -1,6 +1,6 @@
 -- What each answer stands for: the values asked for, or the refusal's number.
 use Prim.Native.Nat.{ℕ}
-use Rattle.numbers.specs.Answer.{Answer, given, refused}
+use Rattle.answers.specs.Answer.{Answer, given, refused}
 use Rattle.calendar.specs.declared.Date.{Date}
 use Rattle.calendar.specs.declared.Year.{Year}
 use Rattle.calendar.specs.declared.YearAnswer.{YearAnswer}

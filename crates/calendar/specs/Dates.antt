@@ -1,11 +1,13 @@
 -- Dates and days, with their refusals (01, "Refusal numbers"; the second demand).
 use mathlib.Core.Bool.{Bool, _&&_}
+use mathlib.Core.List.{List, [], _∷_, _++_}
 use Prim.Native.Nat.{ℕ, _+_, _-_, _%_}
 use lib.Dec.{leb, ltb}
-use Rattle.numbers.specs.Answer.{Answer, given, need}
+use Rattle.answers.specs.Answer.{Answer}
+use Rattle.answers.specs.Conditions.{asking}
 use Rattle.months.specs.Rules.{Rules, dayNumber}
 use Rattle.months.specs.Months.{monthOf, firstDay, nextFirstDay, yearWith, isLeap, numberOf}
-use Rattle.asked.specs.Asked.{isCalendar, rulesFor, isCovered, monthNamed, hasMonth, hasDay}
+use Rattle.asked.specs.Asked.{rulesFor, monthNamed, calendarConditions, dayConditions}
 use Rattle.calendar.specs.declared.Date.{Date}
 use Rattle.calendar.specs.declared.Days.{Days}
 
@@ -15,10 +17,7 @@ dayIn r k d = dayNumber r (r .start k + d - 1)
 
 -- the day of a date
 unfoldable pub dayOf : ℕ → ℕ → ℕ → Bool → ℕ → Answer ℕ
-dayOf c y m leap d =
-    let r : Rules = rulesFor c in
-    let k : ℕ = monthNamed r y m leap in
-    need (isCalendar c) 1 (need (isCovered r y) 2 (need (hasMonth r y m leap) 3 (need (hasDay r k d) 4 (given (dayIn r k d)))))
+dayOf c y m leap d = asking (dayConditions c y m leap d) (dayIn (rulesFor c) (monthNamed (rulesFor c) y m leap) d)
 
 -- the covered days: from the first covered year's first day to the eve of the year after the last
 abbrev pub coveredDays : Rules → Days
@@ -34,10 +33,13 @@ dateIn r d =
     record { year = yearWith r k; month = numberOf r k; leap = isLeap r k; day = d - r .start k + 1 }
 
 -- the date of a day number
+abbrev pub dateConditions : ℕ → ℕ → List (Bool × ℕ)
+dateConditions c n =
+    calendarConditions c ++
+    (isCoveredDay (rulesFor c) n, 5) ∷ []
+
 unfoldable pub dateOf : ℕ → ℕ → Answer Date
-dateOf c n =
-    let r : Rules = rulesFor c in
-    need (isCalendar c) 1 (need (isCoveredDay r n) 5 (given (dateIn r (n + r .dayZero))))
+dateOf c n = asking (dateConditions c n) (dateIn (rulesFor c) (n + rulesFor c .dayZero))
 
 -- the cycle number of a day number, from 0, jiazi, to 59
 abbrev pub cycle : ℕ → ℕ

@@ -1,4 +1,5 @@
 pub mod Dates
 pub mod Years
+pub mod Demand
 pub mod Answers
 pub mod Room

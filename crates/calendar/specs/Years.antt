@@ -3,10 +3,11 @@ use mathlib.Core.Bool.{true, false}
 use Prim.Native.Nat.{ℕ, zero, suc, _+_, _-_}
 use lib.ListN.{replicate}
 use Rattle.numbers.specs.Places.{places}
-use Rattle.numbers.specs.Answer.{Answer, given, need}
+use Rattle.answers.specs.Answer.{Answer}
+use Rattle.answers.specs.Conditions.{asking}
 use Rattle.months.specs.Rules.{Rules, dayNumber}
 use Rattle.months.specs.Months.{monthLength, firstMonth, monthCount, firstDay, nextFirstDay, isLeap, numberOf}
-use Rattle.asked.specs.Asked.{isCalendar, rulesFor, isCovered}
+use Rattle.asked.specs.Asked.{rulesFor, yearConditions}
 use Rattle.calendar.specs.declared.Month.{Month}
 use Rattle.calendar.specs.declared.Year.{Year}
 
@@ -36,6 +37,4 @@ noYear = record { days = 0; leap = 0; count = 0; months = replicate 13 noMonth }
 
 -- the year of a number
 unfoldable pub yearOf : ℕ → ℕ → Answer Year
-yearOf c y =
-    let r : Rules = rulesFor c in
-    need (isCalendar c) 1 (need (isCovered r y) 2 (given (yearIn r y)))
+yearOf c y = asking (yearConditions c y) (yearIn (rulesFor c) y)

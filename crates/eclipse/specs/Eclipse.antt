@@ -25,12 +25,12 @@ abbrev pub byoToNodeSeconds : Byo → NodeSecond
 byoToNodeSeconds b = nodeSeconds (b .0 * 1250)
 
 -- the node's period, 228,582.6512 fen
-abbrev pub period : NodeSecond
-period = nodeSeconds 228582_6512
+abbrev pub nodePeriod : NodeSecond
+nodePeriod = nodeSeconds 228582_6512
 
 -- half is 114,291.3256
-abbrev pub half : NodeSecond
-half = nodeSeconds 114291_3256
+abbrev pub halfNodePeriod : NodeSecond
+halfNodePeriod = nodeSeconds 114291_3256
 
 -- the Moon's correction × 202/2573, rounded, in fen
 abbrev pub moonShare : ℤ → ℤ
@@ -39,22 +39,22 @@ moonShare moon = nearest (moon *ℤ pos 202) 2573
 -- node place: mean moment modulo the period + Sun + the Moon's share, brought back into the period
 unfoldable pub nodePlace : Byo → ℤ → ℤ → NodeSecond
 nodePlace mean sun moon =
-    nodeSeconds (modulo (pos (byoToNodeSeconds mean .0 % period .0) +ℤ (sun +ℤ moonShare moon) *ℤ pos fenNodeSeconds) (period .0))
+    nodeSeconds (modulo (pos (byoToNodeSeconds mean .0 % nodePeriod .0) +ℤ (sun +ℤ moonShare moon) *ℤ pos fenNodeSeconds) (nodePeriod .0))
 
 -- a place above half is yin, else yang
 abbrev pub isYin : NodeSecond → Bool
-isYin place = ltb (half .0) (place .0)
+isYin place = ltb (halfNodePeriod .0) (place .0)
 
 abbrev pub sideOf : NodeSecond → Side
 sideOf place = elim (isYin place) [ true ↦ Yin | false ↦ Yang ]
 
 -- .. less that half if yin
 abbrev pub inHalf : NodeSecond → NodeSecond
-inHalf place = nodeSeconds (elim (isYin place) [ true ↦ place .0 - half .0 | false ↦ place .0 ])
+inHalf place = nodeSeconds (elim (isYin place) [ true ↦ place .0 - halfNodePeriod .0 | false ↦ place .0 ])
 
 -- distance is the lesser of place-in-half and half less it, rounded
 unfoldable pub distanceOf : NodeSecond → Fen
-distanceOf n = fen (whole (nearest (pos (min (n .0) (half .0 - n .0))) fenNodeSeconds))
+distanceOf n = fen (whole (nearest (pos (min (n .0) (halfNodePeriod .0 - n .0))) fenNodeSeconds))
 
 -- the side and the distance of a place
 unfoldable pub nodeOf : NodeSecond → Node

@@ -1,7 +1,7 @@
 ghost use mathlib.Core.Path.{_≡_};
 ghost use Prim.Native.Nat.{_*_, _<_, _≤_, _^_, min};
 ghost use lib.IntN.{natAbs};
-ghost use Rattle.eclipse.specs.Eclipse.{period, byoToNodeSeconds, moonShare, half, nodePlace, distanceOf, nodeOf, gradeOf};
+ghost use Rattle.eclipse.specs.Eclipse.{nodePeriod, byoToNodeSeconds, moonShare, halfNodePeriod, nodePlace, distanceOf, nodeOf, gradeOf};
 ghost use Rattle.eclipse.specs.Answers.{gradeMeans};
 ghost use Rattle.eclipse.specs.Room.{Placeable};
 use units::BYO_IN_FEN;
@@ -13,14 +13,14 @@ const NODE_SECONDS_IN_FEN: u64 = 10_000;
 const NODE_SECONDS_IN_BYO: u64 = NODE_SECONDS_IN_FEN / BYO_IN_FEN;
 
 // The node's period, 228,582.6512 fen, and half of it.
-const PERIOD: u64 = 228582_6512;
+const PERIOD: NodeSecond = NodeSecond(228582_6512);
 
-const HALF: u64 = PERIOD / 2;
+const HALF: NodeSecond = NodeSecond(PERIOD.0 / 2);
 
 // From this distance on there is no eclipse; up to `TOTAL` it is total.
-const LIMIT: u64 = 9737;
+const LIMIT: Fen = Fen(9737);
 
-const TOTAL: u64 = 2147;
+const TOTAL: Fen = Fen(2147);
 
 // 1/10,000 fen.
 pub struct NodeSecond(pub u64);
@@ -68,9 +68,11 @@ pub fn node_place(mean: Byo, sun: i64, moon: i64) -> NodeSecond
     requires { ⌜ Placeable mean sun moon ⌝ }
     ensures { λ r. ⌜ r ≡ nodePlace mean sun moon ⌝ }
 {
-    let past = byo_to_node_seconds(mean).0 % PERIOD;
+    let past = byo_to_node_seconds(mean).0 % PERIOD.0;
     let correction = sun + moon_share(moon);
-    NodeSecond(((past + PERIOD) as i64 + correction * (NODE_SECONDS_IN_FEN as i64)) as u64 % PERIOD)
+    NodeSecond(
+        ((past + PERIOD.0) as i64 + correction * (NODE_SECONDS_IN_FEN as i64)) as u64 % PERIOD.0,
+    )
 }
 
 fn lesser(one: u64, other: u64) -> u64
@@ -81,22 +83,22 @@ fn lesser(one: u64, other: u64) -> u64
 
 // The distance of a place in half a period from the nearer end of it, rounded.
 fn distance_of(place: NodeSecond) -> Fen
-    requires { ⌜ place .0 ≤ half .0 ⌝ }
+    requires { ⌜ place .0 ≤ halfNodePeriod .0 ⌝ }
     ensures { λ r. ⌜ r ≡ distanceOf place ⌝ }
 {
-    let nearer = lesser(place.0, HALF - place.0);
+    let nearer = lesser(place.0, HALF.0 - place.0);
     Fen((nearer + NODE_SECONDS_IN_FEN / 2) / NODE_SECONDS_IN_FEN)
 }
 
 // The side and the distance of a place.
 pub fn node_of(place: NodeSecond) -> Node
-    requires { ⌜ place .0 < period .0 ⌝ }
+    requires { ⌜ place .0 < nodePeriod .0 ⌝ }
     ensures { λ r. ⌜ r ≡ nodeOf place ⌝ }
 {
-    if HALF < place.0 {
+    if HALF.0 < place.0 {
         Node {
             side: Side::Yin,
-            distance: distance_of(NodeSecond(place.0 - HALF)),
+            distance: distance_of(NodeSecond(place.0 - HALF.0)),
         }
     } else {
         Node {
@@ -110,13 +112,13 @@ pub fn node_of(place: NodeSecond) -> Node
 pub fn grade_of(distance: Fen) -> Grade
     ensures { λ r. ⌜ gradeMeans r ≡ gradeOf distance ⌝ }
 {
-    if LIMIT <= distance.0 {
+    if LIMIT.0 <= distance.0 {
         return Grade::None;
     }
-    if distance.0 <= TOTAL {
+    if distance.0 <= TOTAL.0 {
         return Grade::Total;
     }
-    let short = LIMIT - distance.0;
+    let short = LIMIT.0 - distance.0;
     Grade::Partial(Share {
         parts: (short / 506) as u8,
         remainder: (short % 506) as u16,

@@ -18,34 +18,19 @@ pub record Small (t : Date) : Type 0 where
 abbrev plain : Date → ℕ
 plain t = t .year * 10000 + t .month * 100 + t .day
 
-module _ (t : Date) (small : Small t) where
-  pub number-day : dateNumber t % 100 ≡ t .day
-  number-day = by-leap (t .leap)
-    where
-      by-leap : (b : Bool) → (elim b [ true ↦ 100000000 | false ↦ 0 ] + plain t) % 100 ≡ t .day
-      by-leap true = omega (arith, small .day)
-      by-leap false = omega (arith, small .day)
+-- a number of which a date's numbers are the parts
+pub record Parts (n : ℕ) (t : Date) : Type 0 where
+  pub year : n % 100000000 / 10000 ≡ t .year
+  pub month : n / 100 % 100 ≡ t .month
+  pub leap : leb 100000000 n ≡ t .leap
+  pub day : n % 100 ≡ t .day
 
-  pub number-month : dateNumber t / 100 % 100 ≡ t .month
-  number-month = by-leap (t .leap)
-    where
-      by-leap : (b : Bool) → (elim b [ true ↦ 100000000 | false ↦ 0 ] + plain t) / 100 % 100 ≡ t .month
-      by-leap true = omega (arith, small .day, small .month)
-      by-leap false = omega (arith, small .day, small .month)
-
-  pub number-year : dateNumber t % 100000000 / 10000 ≡ t .year
-  number-year = by-leap (t .leap)
-    where
-      by-leap : (b : Bool) → (elim b [ true ↦ 100000000 | false ↦ 0 ] + plain t) % 100000000 / 10000 ≡ t .year
-      by-leap true = omega (arith, small .day, small .month, small .year)
-      by-leap false = omega (arith, small .day, small .month, small .year)
-
-  pub number-leap : leb 100000000 (dateNumber t) ≡ t .leap
-  number-leap = by-leap (t .leap)
-    where
-      by-leap : (b : Bool) → leb 100000000 (elim b [ true ↦ 100000000 | false ↦ 0 ] + plain t) ≡ b
-      by-leap true = le-leb 100000000 (100000000 + plain t) (omega arith)
-      by-leap false = lt-leb 100000000 (0 + plain t) (omega (arith, small .day, small .month, small .year))
+pub parts : (t : Date) → Small t → Parts (dateNumber t) t
+parts t small = by-leap (t .leap)
+  where
+    by-leap : (b : Bool) → Parts (elim b [ true ↦ 100000000 | false ↦ 0 ] + plain t) (record { year = t .year; month = t .month; leap = b; day = t .day })
+    by-leap true = record { year = omega (arith, small); month = omega (arith, small); leap = le-leb 100000000 (100000000 + plain t) (omega arith); day = omega (arith, small) }
+    by-leap false = record { year = omega (arith, small); month = omega (arith, small); leap = lt-leb 100000000 (0 + plain t) (omega (arith, small)); day = omega (arith, small) }
 
 -- two dates whose numbers agree but for the day are of one month
 pub record OneMonth (s t : Date) : Type 0 where
@@ -56,8 +41,8 @@ pub record OneMonth (s t : Date) : Type 0 where
 module _ (s t : Date) (small-s : Small s) (small-t : Small t) where
   pub one-month : dateNumber s / 100 ≡ dateNumber t / 100 → OneMonth s t
   one-month e =
-      let month : s .month ≡ t .month = sym (number-month s small-s) ∙ ap (λ n. n % 100) e ∙ number-month t small-t in
-      let year : s .year ≡ t .year = omega (arith, e, number-year s small-s, number-year t small-t) in
+      let month : s .month ≡ t .month = sym (parts s small-s .month) ∙ ap (λ n. n % 100) e ∙ parts t small-t .month in
+      let year : s .year ≡ t .year = omega (arith, e, parts s small-s .year, parts t small-t .year) in
       record { year = year; month = month; leap = by-leap (s .leap) (t .leap) refl refl }
     where
       by-leap : (a b : Bool) → s .leap ≡ a → t .leap ≡ b → s .leap ≡ t .leap

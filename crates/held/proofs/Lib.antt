@@ -1,4 +1,6 @@
 pub mod Steps
 pub mod DateNumbers
-pub mod Lookups
+pub mod Places
+pub mod DateOfDay
+pub mod DayOfDate
 pub mod OneAnswer

@@ -3,11 +3,17 @@ ghost use Prim.Native.Nat.{_≤_};
 ghost use Rattle.calendar.specs.Answers.{dayMeans, dateMeans};
 ghost use Rattle.kept.specs.Room.{Kept};
 ghost use Rattle.held.specs.Held.{dayInRun, dateInRun};
-ghost use Rattle.held.specs.Room.{OneBegun, LastBegun, FirstNamed, HeldYear, monthPlace};
+ghost use Rattle.held.specs.Room.{OneBegun, LastBegun, HeldYear, FirstNamed, MonthPlace};
 use calendar::Date;
 use calendar::DateAnswer;
 use calendar::DayAnswer;
 use kept::Run;
+
+// Where a month stands in a run.
+enum Place {
+    At(usize),
+    Nowhere,
+}
 
 // The last place of those used whose month has begun by a day.
 fn place_of_day(first_days: &[u32; 174], count: usize, day: u32) -> usize
@@ -51,29 +57,28 @@ pub fn date_in_run(run: Run, day: u64) -> DateAnswer
     })
 }
 
-// The first used place whose month has a name, told as a date's number without the day; as many places as are used, if there is none.
-fn place_with_name(last_dates: &[u32; 174], count: usize, name: u32) -> usize
+// The first used place whose month has a name, told as a date's number without the day.
+fn place_with_name(last_dates: &[u32; 174], count: usize, name: u32) -> Place
     requires { ⌜ count ≤ 174 ⌝ }
     ensures { λ r. ⌜ FirstNamed (now («last_dates» .entry)) count name r ⌝ }
 {
     let mut place: usize = 0;
     while place < count {
         if last_dates[place] / 100 == name {
-            return place;
+            return Place::At(place);
         }
         place += 1;
     }
-    place
+    Place::Nowhere
 }
 
-// The place of a month of a year that an examined run holds; as many places as are used, if the year lacks it.
-fn place_of_month(run: Run, year: u64, month: u64, leap: bool) -> usize
+// The place of a month of a year that an examined run holds.
+fn place_of_month(run: Run, year: u64, month: u64, leap: bool) -> Place
     requires { ⌜ HeldYear run year ⌝ }
-    ensures { λ r. ⌜ r ≡ monthPlace run year month leap ⌝ }
+    ensures { λ r. ⌜ MonthPlace run year month leap r ⌝ }
 {
-    let count = run.count as usize;
     if 12 < month {
-        return count;
+        return Place::Nowhere;
     }
     let date = Date {
         year: year as u16,
@@ -82,7 +87,11 @@ fn place_of_month(run: Run, year: u64, month: u64, leap: bool) -> usize
         day: 0,
     };
     let last_dates = run.last_dates;
-    place_with_name(&last_dates, count, kept::date_number(date) / 100)
+    place_with_name(
+        &last_dates,
+        run.count as usize,
+        kept::date_number(date) / 100,
+    )
 }
 
 // The day of a date, looked up in an examined run.
@@ -96,10 +105,9 @@ pub fn day_in_run(run: Run, year: u64, month: u64, leap: bool, day: u64) -> DayA
     if run.first_year as u64 + run.years as u64 <= year {
         return DayAnswer::Refused(2);
     }
-    let place = place_of_month(run, year, month, leap);
-    if run.count as usize <= place {
+    let Place::At(place) = place_of_month(run, year, month, leap) else {
         return DayAnswer::Refused(3);
-    }
+    };
     if day < 1 {
         return DayAnswer::Refused(4);
     }

@@ -1,6 +1,6 @@
 -- What the examination of a run tells: it passes exactly if the run has the content of 1 to 14 covered years.
 use mathlib.Core.Path.{_≡_, sym, ap, _∙_}
-use mathlib.Core.Bool.{Bool, true, false, _&&_, and-eq-true-iff}
+use mathlib.Core.Bool.{Bool, true, _&&_, and-eq-true-iff}
 use Prim.Native.Nat.{ℕ, _+_, _-_, _≤_}
 use native.Mathlib.Omega.{arith}
 use lib.Dec.{leb}
@@ -55,15 +55,6 @@ module _ (run : Run) where
 
   abbrev rule : Run
   rule = runOf (run .calendar) (run .«first_year») (run .years)
-
-  -- the test as the code makes it: years that cannot be kept settle it, and else the comparison
-  pub not-kept : can-be ≡ false → false ≡ isRun run
-  unfolding isRun
-  not-kept h = rw h
-
-  pub compared : can-be ≡ true → sameRun run rule ≡ isRun run
-  unfolding isRun
-  compared h = rw h
 
   -- what passes has the content of its years ..
   pub is-kept : isRun run ≡ true → Kept run

@@ -2,17 +2,16 @@
 use mathlib.Core.Path.{_≡_, refl, sym, ap, _∙_}
 use mathlib.Core.Bool.{true}
 use mathlib.Core.List.{List}
-use Prim.Native.Nat.{ℕ, _+_, _<_, _≤_}
+use Prim.Native.Nat.{ℕ, _+_, _<_}
 use native.Mathlib.Omega.{arith}
-use lib.ListN.{getD, set, replicate}
-use Rattle.numbers.specs.Places.{places}
-use Rattle.numbers.proofs.Places.{none-placed, put-down}
-use Rattle.months.specs.Rules.{Rules}
+use lib.ListN.{getD, set}
+use Rattle.answers.specs.Answer.{Answer}
 use Rattle.months.specs.Months.{firstMonth, monthCount, yearWith}
+use Rattle.months.specs.Year.{OfYear}
 use Rattle.months.proofs.Calendars.{steady}
 use Rattle.months.proofs.FirstMonths.{year-is}
 use Rattle.months.proofs.FourteenYears.{at-most-174}
-use Rattle.asked.specs.Asked.{isCalendar, numbered, rulesFor}
+use Rattle.asked.specs.Asked.{numbered, rulesFor, isCovered}
 use Rattle.asked.specs.Room.{CoveredYear}
 use Rattle.asked.proofs.Covered.{covered-year-tested, month-covering}
 use Rattle.asked.proofs.Numbers.{year-small}
@@ -26,7 +25,7 @@ use Rattle.calendar.proofs.YearLaws.{listed-at}
 use Rattle.kept.specs.declared.Run.{Run}
 use Rattle.kept.specs.Runs.{heldFirst, heldLast, runOf, emptyRun}
 use Rattle.kept.specs.Room.{lastDate, CoveredYears, NextYear, Extendable}
-use Rattle.kept.proofs.Content.{run-told, calendar-told, first-told, years-told, is-own, own-count}
+use Rattle.kept.proofs.Content.{itsCalendar, itsRules, itsFirst, Rows, empty-rows, one-month-more, run-told, own-count}
 
 -- month i of a covered year, with that year, is what a run holds of it
 module _ (c y i : ℕ) (d : Month) (covered : CoveredYear (rulesFor c) y) (h : i < monthCount (rulesFor c) y) where
@@ -44,108 +43,92 @@ module _ (c y i : ℕ) (d : Month) (covered : CoveredYear (rulesFor c) y) (h : i
 
   pub last-listed : lastDate y its-listed ≡ heldLast (rulesFor c) month
   last-listed =
-      let covers = month-covering (numbered c) y covered month (record { from = omega arith; to = omega (arith, h) }) in
-      let year : yearWith (rulesFor c) month ≡ y = year-is (rulesFor c) (steady (numbered c)) month covers y (record { from = omega arith; to = omega (arith, h) }) in
+      let of-year : OfYear (rulesFor c) y month = record { from = omega arith; to = omega (arith, h) } in
+      let covers = month-covering (numbered c) y covered month of-year in
+      let year : yearWith (rulesFor c) month ≡ y = year-is _ (steady (numbered c)) month covers y of-year in
       ap (lastDate y) is-listed ∙ ap (λ (n : ℕ). lastDate n (listed (rulesFor c) month)) (sym year)
 
 -- a run of no years
 pub none-held : (c first : ℕ) → emptyRun c first ≡ runOf c first 0
 none-held c first =
     let here : first + 0 ≡ first = omega arith in
-    let k = firstMonth (rulesFor c) first in
-    run-told c first 0 0 (replicate 174 0) (replicate 174 0) (rw here (omega arith)) (sym (none-placed 0 (heldFirst (rulesFor c)) k 174)) (sym (none-placed 0 (heldLast (rulesFor c)) k 174))
+    run-told c first 0 0 (rw here (omega arith)) (empty-rows {run = emptyRun c first} refl (rulesFor c) (firstMonth (rulesFor c) first))
 
--- the calendar and the first year of a run that has the content of some years
-module _ (c first years : ℕ) (run : Run) (e : run ≡ runOf c first years) where
+-- a run that has the content of so many years from a first one on
+module _ (c first : ℕ) (run : Run) (e : run ≡ runOf c first (run .years)) where
   calendar-is : run .calendar ≡ c
-  calendar-is = ap (λ (x : Run). x .calendar) e ∙ calendar-told c first years
+  unfolding runOf
+  calendar-is = ap (λ (x : Run). x .calendar) e
 
   first-is : run .«first_year» ≡ first
-  first-is = ap (λ (x : Run). x .«first_year») e ∙ first-told c first years
+  unfolding runOf
+  first-is = ap (λ (x : Run). x .«first_year») e
 
--- so many of the years that can be held, and not yet all of them
-pub still-extendable : (c first years : ℕ) (run : Run) → CoveredYears c first years → run ≡ runOf c first (run .years) → run .years < years → Extendable run
-still-extendable c first years run room e more =
-    record {
-      own = is-own c first (run .years) run e;
-      room = rw (calendar-is c first (run .years) run e, first-is c first (run .years) run e) (record { known = room .known; from = room .from; to = omega (arith, room .to, more); at-most-14 = omega (arith, room .at-most-14, more) });
-    }
+  -- .. and not yet of all that are to be held
+  pub still-extendable : (years : ℕ) → CoveredYears c first years → run .years < years → Extendable run
+  still-extendable years room more =
+      let next : CoveredYears c first (run .years + 1) = record { known = room .known; from = room .from; to = omega (arith, room .to, more); at-most-14 = omega (arith, room .at-most-14, more) } in
+      record { own = e ∙ rw (calendar-is, first-is); room = rw (calendar-is, first-is) next }
 
--- a year more makes the run of a year more
-pub one-year-more : (c first : ℕ) (run after : Run) → run ≡ runOf c first (run .years) → after ≡ runOf (run .calendar) (run .«first_year») (run .years + 1) → after ≡ runOf c first (after .years)
-one-year-more c first run after e f =
-    let g : after ≡ runOf c first (run .years + 1) = rw (calendar-is c first (run .years) run e, first-is c first (run .years) run e) at f in
-    g ∙ ap (runOf c first) (sym (ap (λ (x : Run). x .years) g ∙ years-told c first (run .years + 1)))
+  -- a year more makes the run of a year more
+  pub one-year-more : (after : Run) → after ≡ runOf (run .calendar) (run .«first_year») (run .years + 1) → (after .years ≡ run .years + 1) × (after ≡ runOf c first (after .years))
+  unfolding runOf
+  one-year-more after f =
+      let number : after .years ≡ run .years + 1 = ap (λ (x : Run). x .years) f in
+      (number, f ∙ rw (calendar-is, first-is, number))
 
--- the year after a run's last is covered ..
-pub next-covered : (run : Run) → Extendable run → CoveredYear (rulesFor (run .calendar)) (run .«first_year» + run .years)
-next-covered run h = record { from = omega (arith, h .room .from); to = omega (arith, h .room .to) }
+-- ---- the year after a run's last
 
--- .. and there is room for it
-pub record NextRoom (run : Run) (next : Year) : Type 0 where
-  pub count : firstMonth (rulesFor (run .calendar)) (run .«first_year» + run .years) + next .count ≡ firstMonth (rulesFor (run .calendar)) (run .«first_year» + (run .years + 1))
-  pub at-most-13 : next .count ≤ 13
-  pub fits : run .count + next .count ≤ 174
-  pub year-small : run .«first_year» + run .years ≤ 1684
-
-module _ (run : Run) (next : Year) (h : NextYear run next) where
-  abbrev rules : Rules
-  rules = rulesFor (run .calendar)
-
+module _ {run : Run} (h : Extendable run) where
   abbrev year : ℕ
   year = run .«first_year» + run .years
 
-  abbrev first : ℕ
-  first = firstMonth rules (run .«first_year»)
+  -- it is covered, so that `year_of` answers with it
+  next-covered : CoveredYear (itsRules run) year
+  next-covered = record { from = omega (arith, h .room .from); to = omega (arith, h .room .to) }
 
-  own : run ≡ runOf (run .calendar) (run .«first_year») (run .years)
-  own = h .extendable .own
+  is-covered : isCovered (itsRules run) year ≡ true
+  is-covered = covered-year-tested (itsRules run) year next-covered
 
-  next-count : next .count ≡ monthCount rules year
-  unfolding yearIn
-  next-count = ap (λ (y : Year). y .count) (h .year)
+  pub next-answered : yearAnswer (yearOf (run .calendar) year) .year ≡ yearIn (itsRules run) year
+  next-answered = ap (λ (a : Answer Year). yearAnswer a .year) (year-given (run .calendar) year _ .if ((h .room .known, (is-covered, tt)), refl))
 
-  pub next-room : NextRoom run next
-  next-room =
-      let covered = next-covered run (h .extendable) in
-      let room = year-room (numbered (run .calendar)) year covered in
-      let on : run .«first_year» + (run .years + 1) ≡ year + 1 = omega arith in
-      let all = at-most-174 (numbered (run .calendar)) (run .«first_year») (run .years + 1) (h .extendable .room .at-most-14) in
-      let count : firstMonth rules year + next .count ≡ firstMonth rules (run .«first_year» + (run .years + 1)) = rw on (omega (arith, next-count, room .at-least)) in
-      record {
-        count = count;
-        at-most-13 = omega (arith, next-count, room .at-most);
-        fits = omega (arith, all, own-count run own, count);
-        year-small = year-small (run .calendar) year (covered-year-tested rules year covered);
-      }
+  module _ {next : Year} (is-next : next ≡ yearIn (itsRules run) year) where
+    next-count : next .count ≡ monthCount (itsRules run) year
+    unfolding yearIn
+    next-count = ap (λ (y : Year). y .count) is-next
 
-  module _ (place : ℕ) (d : Month) (inside : place < next .count) where
-    its-month : next .months ≡ yearIn rules year .months
-    its-month = ap (λ (y : Year). y .months) (h .year)
+    ends : itsFirst run + (run .count + next .count) ≡ firstMonth (itsRules run) (run .«first_year» + (run .years + 1))
+    ends =
+        let on : run .«first_year» + (run .years + 1) ≡ year + 1 = omega arith in
+        rw on (omega (arith, own-count (h .own), next-count, year-room (itsCalendar run) year next-covered .at-least))
 
-    in-year : place < monthCount rules year
-    in-year = omega (arith, inside, next-count)
+    -- there is room for its months
+    pub next-year : NextYear run next
+    next-year =
+        record {
+          extendable = h;
+          year = is-next;
+          year-small = year-small (run .calendar) year is-covered;
+          at-most-13 = omega (arith, next-count, year-room (itsCalendar run) year next-covered .at-most);
+          fits = omega (arith, ends, at-most-174 (itsCalendar run) (run .«first_year») (run .years + 1) (h .room .at-most-14));
+        }
 
-    here : firstMonth rules year + place ≡ first + (run .count + place)
-    here = omega (arith, own-count run own)
+-- ---- .. is at hand
 
-    -- a number of one more of its months goes to the next place
-    one-placed : (held : ℕ → ℕ) (l : List ℕ) (n : ℕ) → n ≡ held (first + (run .count + place)) → l ≡ places 0 held first (run .count + place) 174 → set l (run .count + place) n ≡ places 0 held first (run .count + (place + 1)) 174
-    one-placed held l n e f =
-        let on : run .count + place + 1 ≡ run .count + (place + 1) = omega arith in
-        rw on at (put-down 0 held first (run .count + place) 174 l n (omega (arith, inside, next-room .fits)) f e)
-
-    pub day-placed : (l : List ℕ) → l ≡ places 0 (heldFirst rules) first (run .count + place) 174 → set l (run .count + place) (getD (next .months) place d .«first_day») ≡ places 0 (heldFirst rules) first (run .count + (place + 1)) 174
-    day-placed l e = one-placed (heldFirst rules) l _ (rw its-month (first-listed (run .calendar) year place d (next-covered run (h .extendable)) in-year ∙ ap (heldFirst rules) here)) e
-
-    pub date-placed : (l : List ℕ) (n : ℕ) → n ≡ lastDate year (getD (next .months) place d) → l ≡ places 0 (heldLast rules) first (run .count + place) 174 → set l (run .count + place) n ≡ places 0 (heldLast rules) first (run .count + (place + 1)) 174
-    date-placed l n f e = one-placed (heldLast rules) l n (f ∙ rw its-month (last-listed (run .calendar) year place d (next-covered run (h .extendable)) in-year ∙ ap (heldLast rules) here)) e
+module _ {run : Run} {next : Year} (h : NextYear run next) where
+  -- one more of its months goes to the next place
+  pub month-placed : (i : ℕ) (d : Month) → i < next .count → {days dates : List ℕ} {n : ℕ} → n ≡ lastDate (year (h .extendable)) (getD (next .months) i d) → Rows (itsRules run) (itsFirst run) (run .count + i) days dates
+      → Rows (itsRules run) (itsFirst run) (run .count + (i + 1)) (set days (run .count + i) (getD (next .months) i d .«first_day»)) (set dates (run .count + i) n)
+  month-placed i d inside e rows =
+      let covered = next-covered (h .extendable) in
+      let in-year : i < monthCount (itsRules run) (year (h .extendable)) = omega (arith, inside, next-count (h .extendable) (h .year)) in
+      let here : firstMonth (itsRules run) (year (h .extendable)) + i ≡ itsFirst run + (run .count + i) = omega (arith, own-count (h .extendable .own)) in
+      let on : run .count + (i + 1) ≡ run .count + i + 1 = omega arith in
+      rw on
+      (one-month-more rows (omega (arith, inside, h .fits)) (rw (h .year, ← here) (first-listed (run .calendar) _ i d covered in-year)) (e ∙ rw (h .year, ← here) (last-listed (run .calendar) _ i d covered in-year)))
 
   -- all of them together make the run that is longer by the year
-  pub year-held : (days dates : List ℕ) → days ≡ places 0 (heldFirst rules) first (run .count + next .count) 174 → dates ≡ places 0 (heldLast rules) first (run .count + next .count) 174
+  pub year-held : {days dates : List ℕ} → Rows (itsRules run) (itsFirst run) (run .count + next .count) days dates
       → record { calendar = run .calendar; «first_year» = run .«first_year»; years = run .years + 1; count = run .count + next .count; «first_days» = days; «last_dates» = dates } ≡ runOf (run .calendar) (run .«first_year») (run .years + 1)
-  year-held days dates e f = run-told (run .calendar) (run .«first_year») (run .years + 1) (run .count + next .count) days dates (omega (arith, own-count run own, next-room .count)) e f
-
--- `year_of` answers with the year, where it is covered
-pub year-answered : (c y : ℕ) → isCalendar c ≡ true → CoveredYear (rulesFor c) y → yearAnswer (yearOf c y) ≡ record { refusal = 0; year = yearIn (rulesFor c) y }
-year-answered c y known covered = ap yearAnswer (year-given c y (yearIn (rulesFor c) y) .if (known, (covered-year-tested (rulesFor c) y covered, refl)))
+  year-held = run-told (run .calendar) (run .«first_year») (run .years + 1) (run .count + next .count) (ends (h .extendable) (h .year))

@@ -3,9 +3,8 @@ use mathlib.Core.Path.{_≡_, sym, ap, _∙_}
 use Prim.Native.Nat.{ℕ, _<_}
 use native.Mathlib.Omega.{arith}
 use lib.ListN.{getD}
-use Rattle.numbers.specs.Answer.{given}
+use Rattle.answers.specs.Answer.{given}
 use Rattle.numbers.proofs.Places.{at-place}
-use Rattle.numbers.proofs.Answers.{one-given}
 use Rattle.months.specs.Rules.{rulesOf}
 use Rattle.months.specs.Months.{firstMonth, monthCount}
 use Rattle.months.proofs.Figures.{first-1523, first-1537}
@@ -25,10 +24,10 @@ use Rattle.kept.proofs.Extending.{first-listed, last-listed}
 
 module _ (c y : ℕ) (x : Year) (e : yearOf c y ≡ given x) where
   covered : CoveredYear (rulesFor c) y
-  covered = covered-year-told (rulesFor c) y (year-given c y x .only-if e .1 .0)
+  covered = covered-year-told (rulesFor c) y (year-given c y x .only-if e .0 .1 .0)
 
   listing : yearIn (rulesFor c) y ≡ x
-  listing = one-given (yearIn (rulesFor c) y) x (year-given c y x .only-if e .1 .1)
+  listing = year-given c y x .only-if e .1
 
   pub count-listed : runOf c y 1 .count ≡ x .count
   unfolding runOf yearIn

@@ -1,10 +1,10 @@
 -- The test that two runs are the same tells what is one from what is not.
 use mathlib.Core.Path.{_≡_, refl}
-use mathlib.Core.Bool.{true, false, and-eq-true-iff}
+use mathlib.Core.Bool.{true, and-eq-true-iff}
 use mathlib.Core.List.{List}
 use Prim.Native.Nat.{ℕ}
 use lib.Dec.{eqb}
-use borrow.Author.Tests.{eqb-true, eq-eqb, ne-eqb}
+use borrow.Author.Tests.{eqb-true, eq-eqb}
 use Rattle.numbers.specs.Same.{sameBy}
 use Rattle.numbers.proofs.Same.{Tells, tells-numbers, tells-lists}
 use Rattle.kept.specs.declared.Run.{Run}
@@ -39,34 +39,3 @@ tells-runs = record { one = one; itself = itself }
     itself a =
         rw
         (eq-eqb (a .calendar) (a .calendar) refl, eq-eqb (a .«first_year») (a .«first_year») refl, eq-eqb (a .years) (a .years) refl, eq-eqb (a .count) (a .count) refl, lists .itself (a .«first_days»), lists .itself (a .«last_dates»))
-
--- ---- the test as the code makes it: the first difference settles it
-
-module _ (a b : Run) where
-  pub calendar-differs : (a .calendar ≡ b .calendar → ⊥) → false ≡ sameRun a b
-  unfolding sameRun
-  calendar-differs h = rw (ne-eqb (a .calendar) (b .calendar) h)
-
-  module _ (calendar : a .calendar ≡ b .calendar) where
-    pub first-differs : (a .«first_year» ≡ b .«first_year» → ⊥) → false ≡ sameRun a b
-    unfolding sameRun
-    first-differs h = rw (eq-eqb _ _ calendar, ne-eqb (a .«first_year») (b .«first_year») h)
-
-    module _ (first : a .«first_year» ≡ b .«first_year») where
-      pub years-differ : (a .years ≡ b .years → ⊥) → false ≡ sameRun a b
-      unfolding sameRun
-      years-differ h = rw (eq-eqb _ _ calendar, eq-eqb _ _ first, ne-eqb (a .years) (b .years) h)
-
-      module _ (years : a .years ≡ b .years) where
-        pub count-differs : (a .count ≡ b .count → ⊥) → false ≡ sameRun a b
-        unfolding sameRun
-        count-differs h = rw (eq-eqb _ _ calendar, eq-eqb _ _ first, eq-eqb _ _ years, ne-eqb (a .count) (b .count) h)
-
-        module _ (count : a .count ≡ b .count) where
-          pub days-differ : sameBy eqb (a .«first_days») (b .«first_days») ≡ false → false ≡ sameRun a b
-          unfolding sameRun
-          days-differ h = rw (eq-eqb _ _ calendar, eq-eqb _ _ first, eq-eqb _ _ years, eq-eqb _ _ count, h)
-
-          pub dates-decide : sameBy eqb (a .«first_days») (b .«first_days») ≡ true → sameBy eqb (a .«last_dates») (b .«last_dates») ≡ sameRun a b
-          unfolding sameRun
-          dates-decide h = rw (eq-eqb _ _ calendar, eq-eqb _ _ first, eq-eqb _ _ years, eq-eqb _ _ count, h)

@@ -29,10 +29,13 @@ pub record Extendable (run : Run) : Type 0 where
   pub own : run ≡ runOf (run .calendar) (run .«first_year») (run .years)
   pub room : CoveredYears (run .calendar) (run .«first_year») (run .years + 1)
 
--- .. and that year is at hand
+-- .. and that year is at hand, and there is room for its months
 pub record NextYear (run : Run) (next : Year) : Type 0 where
   pub extendable : Extendable run
   pub year : next ≡ yearIn (rulesFor (run .calendar)) (run .«first_year» + run .years)
+  pub year-small : run .«first_year» + run .years ≤ 1684
+  pub at-most-13 : next .count ≤ 13
+  pub fits : run .count + next .count ≤ 174
 
 -- ---- what is found
 

@@ -6,6 +6,7 @@ ghost use Rattle.numbers.specs.Same.{sameBy};
 ghost use Rattle.asked.specs.Asked.{isCalendar, rulesFor, isCovered};
 ghost use Rattle.kept.specs.Runs.{dateNumber, runOf, emptyRun, sameRun, canBeKept, isRun};
 ghost use Rattle.kept.specs.Room.{lastDate, CoveredYears, NextYear, Extendable};
+use asked::YearAsked;
 use calendar::Date;
 use calendar::Month;
 use calendar::Year;
@@ -146,8 +147,10 @@ pub fn run_of(calendar: u8, first_year: u16, years: u8) -> Run
 pub fn is_covered(calendar: u64, year: u64) -> bool
     ensures { λ r. ⌜ r ≡ isCalendar calendar && isCovered (rulesFor calendar) year ⌝ }
 {
-    let asked = asked::asked_year(calendar, year);
-    asked::year_refusal(asked) == 0
+    let YearAsked::Covered(_, _) = asked::asked_year(calendar, year) else {
+        return false;
+    };
+    true
 }
 
 fn can_be_kept(calendar: u8, first_year: u16, years: u8) -> bool

@@ -5,12 +5,8 @@ use mathlib.Core.List.{List, [], _∷_, _++_}
 use Prim.Native.Nat.{ℕ}
 use borrow.Author.Tests.{eq-eqb, eqb-true}
 use lib.Dec.{eqb}
+use Rattle.answers.proofs.Conditions.{neither}
 use Rattle.line.specs.Line.{has, before, behind}
-
--- two tests of which neither passes
-either-false : (a b : Bool) → (a || b) ≡ false → (a ≡ false) × (b ≡ false)
-either-false true b h = absurd (true≢false h)
-either-false false b h = (refl, h)
 
 module _ (stop : ℕ) where
   -- two lists together have what either has
@@ -33,16 +29,20 @@ module _ (stop : ℕ) where
       let e = eq-eqb stop stop refl in
       record { found = rw e; front-is = rw (e, before); rest-is = rw (e, behind) }
   cut-at (byte ∷ front) rest none =
-      let (e, later) = either-false (eqb byte stop) (has stop front) none in
+      let (e, later) = neither (eqb byte stop) (has stop front) none in
       let cut = cut-at front rest later in
-      record { found = rw e (cut .found); front-is = rw (e, before) (ap (λ l. byte ∷ l) (cut .front-is)); rest-is = rw (e, behind) (cut .rest-is) }
+      let front-is = ap (λ l. byte ∷ l) (cut .front-is) in
+      record { found = rw e (cut .found); front-is = rw (e, before) front-is; rest-is = rw (e, behind) (cut .rest-is) }
 
   -- the two parts and the stop between them are the whole
-  pub whole : (bytes : List ℕ) → has stop bytes ≡ true → bytes ≡ before stop bytes ++ stop ∷ behind stop bytes
+  abbrev Joined : List ℕ → Type 0
+  Joined bytes = bytes ≡ before stop bytes ++ stop ∷ behind stop bytes
+
+  pub whole : (bytes : List ℕ) → has stop bytes ≡ true → Joined bytes
   unfolding has before behind
   whole [] found = absurd (true≢false (sym found))
   whole (byte ∷ bytes) found = by-byte (eqb byte stop) refl (whole bytes)
     where
-      by-byte : (b : Bool) → eqb byte stop ≡ b → (has stop bytes ≡ true → bytes ≡ before stop bytes ++ stop ∷ behind stop bytes) → byte ∷ bytes ≡ before stop (byte ∷ bytes) ++ stop ∷ behind stop (byte ∷ bytes)
+      by-byte : (b : Bool) → eqb byte stop ≡ b → (has stop bytes ≡ true → Joined bytes) → Joined (byte ∷ bytes)
       by-byte true e later = rw (e, before, behind) (ap (λ x. x ∷ bytes) (eqb-true byte stop e))
       by-byte false e later = rw (e, before, behind) (ap (λ l. byte ∷ l) (later (rw e at found)))

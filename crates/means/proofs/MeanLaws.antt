@@ -5,15 +5,14 @@ use native.Mathlib.Omega.{arith}
 use Rattle.numbers.specs.Spans.{Takes}
 use Rattle.numbers.proofs.Spans.{Growing, growing}
 use Rattle.units.specs.Units.{byo, anomalySeconds, fenToByo, byoToAnomalySeconds}
-use Rattle.sun.specs.Sun.{year}
-use Rattle.means.specs.Means.{accumulatedYears, solstice, termSpacing, midTerm, midTermDay, rainWater, meanNewMoon, meanFullMoon}
+use Rattle.means.specs.Means.{accumulatedYears, solarYear, solstice, termSpacing, midTerm, midTermDay, rainWater, meanNewMoon, meanFullMoon}
 
 -- mid-terms are 255,671 1/4 fen apart
 mid-term-spacing : midTerm 1 ≡ byo (255671 * 8 + 2)
 mid-term-spacing = refl
 
 -- 24 terms make a year
-year-of-terms : 24 * termSpacing .0 ≡ fenToByo year .0
+year-of-terms : 24 * termSpacing .0 ≡ fenToByo solarYear .0
 year-of-terms = refl
 
 -- the mid-term of month 11 is the solstice

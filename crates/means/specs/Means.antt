@@ -3,15 +3,18 @@ use Prim.Native.Nat.{ℕ, _+_, _-_, _*_}
 use Rattle.units.specs.declared.Fen.{Fen}
 use Rattle.units.specs.declared.Byo.{Byo}
 use Rattle.units.specs.Units.{fen, byo, fenToByo, byoToFen, wholeDays}
-use Rattle.sun.specs.Sun.{year}
 
 -- accumulated years of year Y: 7,070,138 + (Y − 822)
 abbrev pub accumulatedYears : ℕ → ℕ
 accumulatedYears y = 7070138 + y - 822
 
--- the solstice before year Y
+-- from a solstice to the next
+abbrev pub solarYear : Fen
+solarYear = fen 3068055
+
+-- the solstice before year Y: so many of these
 abbrev pub solstice : ℕ → Fen
-solstice y = fen (year .0 * accumulatedYears y)
+solstice y = fen (solarYear .0 * accumulatedYears y)
 
 -- day number = whole days − 2,580,308,749: the whole days of day number 0
 abbrev pub dayZero : ℕ

@@ -2,14 +2,14 @@
 use mathlib.Core.Path.{_≡_}
 use Prim.Native.Nat.{ℕ, _+_, _*_, _<_, _≤_, _^_}
 use native.Mathlib.Omega.{arith}
-use Rattle.numbers.proofs.Spans.{one-span}
+use Rattle.numbers.proofs.Spans.{span-holds, one-span}
 use Rattle.means.proofs.MeanLaws as mean-laws
 use Rattle.senmyo.proofs.Lengths as senmyo-lengths
 use Rattle.genka.proofs.GenkaLaws as genka-laws
 use Rattle.months.specs.declared.Calendar.{Calendar}
 use Rattle.months.specs.declared.Calendar.the-variants.{Senmyo, Genka}
 use Rattle.months.specs.Rules.{Rules, senmyo, genka, rulesOf}
-use Rattle.months.specs.Months.{Has}
+use Rattle.months.specs.Months.{Has, monthOf}
 use Rattle.months.proofs.Steady.{Steady}
 
 pub senmyo-steady : Steady senmyo
@@ -18,8 +18,8 @@ senmyo-steady =
       months-grow = senmyo-lengths.new-moons-grow;
       terms-grow = mean-laws.terms-grow;
       terms-apart = mean-laws.term-takes;
-      twelve-terms = λ y. omega arith;
-      numbers = λ y i h. omega (arith, h);
+      twelve-terms = omega arith;
+      numbers = omega arith;
     }
 
 pub genka-steady : Steady genka
@@ -28,8 +28,8 @@ genka-steady =
       months-grow = genka-laws.new-moons-grow;
       terms-grow = genka-laws.terms-grow;
       terms-apart = genka-laws.term-takes;
-      twelve-terms = λ y. omega arith;
-      numbers = λ y i h. omega (arith, h);
+      twelve-terms = omega arith;
+      numbers = omega arith;
     }
 
 pub steady : (c : Calendar) → Steady (rulesOf c)
@@ -52,23 +52,18 @@ unfolding rulesOf
 sizes Senmyo =
     record {
       start-size = λ k. omega (arith, senmyo-lengths.near-mean k);
-      mid-size = λ j. omega arith;
+      mid-size = omega arith;
       zeroth-from = omega arith;
       zeroth-to = omega arith;
       year-size = omega arith;
-      rain-water-size = λ y h. omega (arith, h);
+      rain-water-size = omega arith;
     }
-sizes Genka =
-    record {
-      start-size = λ k. omega arith;
-      mid-size = λ j. omega arith;
-      zeroth-from = omega arith;
-      zeroth-to = omega arith;
-      year-size = omega arith;
-      rain-water-size = λ y h. omega (arith, h);
-    }
+sizes Genka = omega arith
 
--- ---- no day has two months
+-- ---- each day has a month, the one that is found, and no day has two
+
+pub month-found-has : (c : Calendar) (d : ℕ) → Has (rulesOf c) (monthOf (rulesOf c) d) d
+month-found-has c d = span-holds (rulesOf c .start) (steady c .months-grow) d
 
 pub one-month-of-day : (c : Calendar) (d k l : ℕ) → Has (rulesOf c) k d → Has (rulesOf c) l d → k ≡ l
 one-month-of-day c d k l h g = one-span (rulesOf c .start) (steady c .months-grow) k l d h g

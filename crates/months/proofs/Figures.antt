@@ -11,6 +11,7 @@ use Rattle.senmyo.specs.Phases.{newMoon}
 use Rattle.senmyo.proofs.Worked.{dayAt}
 use Rattle.months.specs.Rules.{Rules, senmyo, genka, dayNumber}
 use Rattle.months.specs.Months.{Has, HasTerm, monthOf, monthWith, firstMonth, firstDay, nextFirstDay, numberOf, isLeap}
+use Rattle.months.specs.Room.{IsLast}
 use Rattle.months.proofs.Steady.{Steady}
 use Rattle.months.proofs.Terms.{name-told}
 use Rattle.months.proofs.FirstMonths.{opened-by}
@@ -26,17 +27,16 @@ has r k d t =
     let (from, to) = and-yes (leb (r .start k) d) (ltb d (r .start (k + 1))) t in
     record { from = leb→le _ _ from; to = ltb→lt _ _ to }
 
--- the month that has mid-term j
+-- the month that has day d, and that which has mid-term j
+month-on : (r : Rules) → Steady r → (k d : ℕ) → T (hasTest r k d) → monthOf r d ≡ k
+month-on r s k d t = span-is (r .start) (s .months-grow) k d (has r k d t)
+
 pub month-with : (r : Rules) → Steady r → (k j : ℕ) → T (hasTest r k (r .mid j)) → monthWith r j ≡ k
-month-with r s k j t = span-is (r .start) (s .months-grow) k (r .mid j) (has r k (r .mid j) t)
+month-with r s k j t = month-on r s k (r .mid j) t
 
 -- month 1 of a year, by its Rain Water
 pub known : (r : Rules) → Steady r → (y k : ℕ) → T (hasTest r k (r .mid (r .rainWater y))) → firstMonth r y ≡ k
 known r s y k t = sym (opened-by r s y k (has r k (r .mid (r .rainWater y)) t))
-
-pub first-822 : firstMonth senmyo 822 ≡ 87445920
-unfolding dayAt
-first-822 = known senmyo senmyo-steady 822 87445920 tt
 
 pub first-1522 : firstMonth senmyo 1522 ≡ 87454578
 unfolding dayAt
@@ -51,9 +51,10 @@ pub first-1537 : firstMonth senmyo 1537 ≡ 87454764
 unfolding dayAt
 first-1537 = known senmyo senmyo-steady 1537 87454764 tt
 
-pub first-1685 : firstMonth senmyo 1685 ≡ 87456594
+-- 1685, the year after the last
+pub first-1685 : firstMonth senmyo (senmyo .lastYear + 1) ≡ 87456594
 unfolding dayAt
-first-1685 = known senmyo senmyo-steady 1685 87456594 tt
+first-1685 = known senmyo senmyo-steady (senmyo .lastYear + 1) 87456594 tt
 
 pub first-445 : firstMonth genka 445 ≡ 70561
 first-445 = known genka genka-steady 445 70561 tt
@@ -71,7 +72,7 @@ first-698 = known genka genka-steady 698 73691 tt
 
 pub senmyo-opens : dayNumber senmyo (firstDay senmyo (senmyo .firstYear)) ≡ 2021320
 unfolding dayAt
-senmyo-opens = rw first-822
+senmyo-opens = rw (known senmyo senmyo-steady (senmyo .firstYear) 87445920 tt)
 
 pub senmyo-ends : dayNumber senmyo (nextFirstDay senmyo (senmyo .lastYear)) ≡ 2336529
 unfolding dayAt
@@ -91,11 +92,11 @@ solsticeDay y = senmyo .mid (12 * accumulatedYears y)
 
 solstice-937 : monthOf senmyo (solsticeDay 937) + 1 ≡ solstice 937 .0 / meanNewMoon 1 .0
 unfolding solsticeDay dayAt
-solstice-937 = rw (span-is (senmyo .start) (senmyo-steady .months-grow) 87447340 (solsticeDay 937) (has senmyo 87447340 (solsticeDay 937) tt))
+solstice-937 = rw (month-on senmyo senmyo-steady 87447340 (solsticeDay 937) tt)
 
 solstice-1575 : monthOf senmyo (solsticeDay 1575) + 1 ≡ solstice 1575 .0 / meanNewMoon 1 .0
 unfolding solsticeDay dayAt
-solstice-1575 = rw (span-is (senmyo .start) (senmyo-steady .months-grow) 87455231 (solsticeDay 1575) (has senmyo 87455231 (solsticeDay 1575) tt))
+solstice-1575 = rw (month-on senmyo senmyo-steady 87455231 (solsticeDay 1575) tt)
 
 -- the mid-term of month 8 of 833 falls on that month's first day, before the moment of its new moon
 by-day-833 : HasTerm senmyo 87446064 (senmyo .rainWater 833 + 7)
@@ -108,7 +109,9 @@ not-by-moment-833 = refl
 
 -- 445 is leap after 5; by the count of 235 months to the 228 mid-terms of 19 years, that month would have mid-term 6
 leap-445 : (numberOf genka (firstMonth genka 445 + 5) ≡ 5) × (isLeap genka (firstMonth genka 445 + 5) ≡ true)
-leap-445 = rw first-445 (name-told genka genka-steady (70561 + 5) (genka .rainWater 445 + 4) (record { from = leb→le _ _ tt; to = ltb→lt _ _ tt }))
+leap-445 =
+    let last : IsLast genka (70561 + 5) (genka .rainWater 445 + 4) = record { from = leb→le _ _ tt; to = ltb→lt _ _ tt } in
+    rw first-445 (name-told genka genka-steady (70561 + 5) (genka .rainWater 445 + 4) last)
 
 not-by-count-445 : 235 * (genka .rainWater 445 + 5) / 228 ≡ firstMonth genka 445 + 5
 not-by-count-445 = rw first-445

@@ -2,14 +2,21 @@
 use mathlib.Core.Path.{_≡_, sym}
 use mathlib.Core.Bool.{false}
 use Prim.Native.Nat.{ℕ, zero, suc, _+_, _-_, _*_, _/_, _<_, _≤_}
+use native.Mathlib.Numerals.{add-one}
 use native.Mathlib.Omega.{arith}
-use Rattle.numbers.specs.Spans.{Holds}
 use Rattle.numbers.proofs.Spans.{later, not-after, found, begun-to, span-holds, span-is, span-from}
 use Rattle.months.specs.Rules.{Rules}
 use Rattle.months.specs.Months.{HasTerm, monthWith, firstMonth, yearWith, lastTerm, isLeap}
+use Rattle.months.specs.Year.{OfYear}
 use Rattle.months.specs.Room.{Covering}
 use Rattle.months.proofs.Steady.{Steady}
 use Rattle.months.proofs.Terms.{last-term, has-not-leap}
+
+-- a later mid-term falls in a later month, or the same
+pub terms-in-order : (r : Rules) → Steady r → (i j : ℕ) → i ≤ j → monthWith r i ≤ monthWith r j
+terms-in-order r s i j h =
+    let here = span-holds (r .start) (s .months-grow) (r .mid i) in
+    span-from (r .start) (s .months-grow) (monthWith r i) (r .mid j) (omega (arith, here .from, later (r .mid) (s .terms-grow) i j h))
 
 module _ (r : Rules) (s : Steady r) (y : ℕ) where
   pub opens : HasTerm r (firstMonth r y) (r .rainWater y)
@@ -33,75 +40,66 @@ module _ (r : Rules) (s : Steady r) (y : ℕ) where
   pub month-1-not-leap : isLeap r (firstMonth r y) ≡ false
   month-1-not-leap = has-not-leap r s (firstMonth r y) (r .rainWater y) opens
 
-  pub twelve-a-year : (n : ℕ) → r .rainWater (y + n) ≡ r .rainWater y + 12 * n
-  twelve-a-year zero = let e : y + 0 ≡ y = omega arith in rw e (omega arith)
-  twelve-a-year (suc n) =
-      let e : y + suc n ≡ (y + n) + 1 = omega arith in
-      rw e (omega (arith, s .twelve-terms (y + n), twelve-a-year n))
-
-  pub in-order : (n : ℕ) → firstMonth r y ≤ firstMonth r (y + n)
-  unfolding firstMonth
-  in-order n =
-      let e = twelve-a-year n in
-      rw e
-      (span-from (r .start) (s .months-grow) (firstMonth r y) _
-      (omega (arith, opens .from, later (r .mid) (s .terms-grow) (r .rainWater y) (r .rainWater y + 12 * n) (omega arith))))
-
--- a later year has a later month 1, or the same
-pub years-in-order : (r : Rules) → Steady r → (y z : ℕ) → y ≤ z → firstMonth r y ≤ firstMonth r z
-years-in-order r s y z h =
-    let on : y + (z - y) ≡ z = omega (arith, h) in
-    rw on at (in-order r s y (z - y))
-
--- ---- the year of a month
-
 module _ (r : Rules) (s : Steady r) where
+  -- twelve mid-terms a year
+  pub from-year-0 : (y : ℕ) → r .rainWater y ≡ r .rainWater 0 + 12 * y
+  from-year-0 zero = omega arith
+  from-year-0 (suc y) = omega (arith, rw add-one at (s .twelve-terms y), from-year-0 y)
+
+  -- a later year has a later month 1, or the same
+  pub years-in-order : (y z : ℕ) → y ≤ z → firstMonth r y ≤ firstMonth r z
+  unfolding firstMonth
+  years-in-order y z h = terms-in-order r s (r .rainWater y) (r .rainWater z) (omega (arith, from-year-0 y, from-year-0 z))
+
+  pub in-order : (y n : ℕ) → firstMonth r y ≤ firstMonth r (y + n)
+  in-order y n = years-in-order y (y + n) (omega arith)
+
+  -- ---- the year of a month
+
   -- from month 1 of a year on, its Rain Water has fallen by the end of a month ..
   rain-water-by : (y k : ℕ) → firstMonth r y ≤ k → r .rainWater y ≤ lastTerm r k
   rain-water-by y k h =
-      let begun = later (r .start) (s .months-grow) (firstMonth r y + 1) (k + 1) (omega (arith, h)) in
-      not-after (r .mid) (s .terms-grow) (r .rainWater y) (lastTerm r k) _ (omega (arith, opens r s y .to, begun)) (last-term r s k .to)
+      let begun = later (r .start) (s .months-grow) (firstMonth r y + 1) (k + 1) (omega arith) in
+      not-after (r .mid) (s .terms-grow) (r .rainWater y) (lastTerm r k) _ (omega (arith, opens r s y .to)) (last-term r s k .to)
 
   -- .. and before the next year's month 1 its Rain Water has not
   no-rain-water-by : (y k : ℕ) → k < firstMonth r (y + 1) → lastTerm r k < r .rainWater y + 12
   no-rain-water-by y k h =
       let twelve-on : r .rainWater (y + 1) ≡ r .rainWater y + 11 + 1 = omega (arith, s .twelve-terms y) in
       let next : r .start (firstMonth r (y + 1)) ≤ r .mid (r .rainWater y + 11 + 1) = rw twelve-on at (opens r s (y + 1) .from) in
-      let ended = later (r .start) (s .months-grow) (k + 1) (firstMonth r (y + 1)) (omega (arith, h)) in
-      let last = not-after (r .mid) (s .terms-grow) (lastTerm r k) (r .rainWater y + 11) _ (last-term r s k .from) (omega (arith, ended, next, s .months-grow .grows k)) in
-      omega (arith, last)
+      let ended = later (r .start) (s .months-grow) (k + 1) (firstMonth r (y + 1)) (omega arith) in
+      let grown = s .months-grow .grows k in
+      let last = not-after (r .mid) (s .terms-grow) (lastTerm r k) (r .rainWater y + 11) _ (last-term r s k .from) (omega arith) in
+      omega arith
 
-  from-year-0 : (y : ℕ) → r .rainWater y ≡ r .rainWater 0 + 12 * y
-  from-year-0 y = let e : 0 + y ≡ y = omega arith in rw e at (twelve-a-year r s 0 y)
-
-  after-year-0 : (y : ℕ) → firstMonth r 0 ≤ firstMonth r y
-  after-year-0 y = let e : 0 + y ≡ y = omega arith in rw e at (in-order r s 0 y)
+  -- the last mid-term by the end of a month is one of the twelve that its year has
+  dozen : (y k : ℕ) → OfYear r y k → (r .rainWater y ≤ lastTerm r k) × (lastTerm r k < r .rainWater y + 12)
+  dozen y k h = (rain-water-by y k (h .from), no-rain-water-by y k (h .to))
 
   -- no month is of two years
-  pub one-year : (y z k : ℕ) → Holds (firstMonth r) y k → Holds (firstMonth r) z k → y ≡ z
-  one-year y z k h g =
-      omega (arith, from-year-0 y, from-year-0 z, rain-water-by y k (h .from), no-rain-water-by y k (h .to), rain-water-by z k (g .from), no-rain-water-by z k (g .to))
+  pub one-year : (y z k : ℕ) → OfYear r y k → OfYear r z k → y ≡ z
+  one-year y z k h g = omega (arith, from-year-0 y, from-year-0 z, dozen y k h, dozen z k g)
 
   module _ (k : ℕ) (c : Covering r k) where
-    pub year-holds : Holds (firstMonth r) (yearWith r k) k
+    pub year-holds : OfYear r (yearWith r k) k
     unfolding yearWith
-    year-holds = found (firstMonth r) k (r .lastYear) (omega (arith, c .from, after-year-0 (r .firstYear))) (c .to)
+    year-holds = found (firstMonth r) k (r .lastYear) (omega (arith, c .from, years-in-order 0 (r .firstYear) (omega arith))) (c .to)
+
+    -- the Rain Water of the first covered year has fallen by its end
+    pub rain-water-fallen : r .rainWater (r .firstYear) ≤ lastTerm r k
+    rain-water-fallen = rain-water-by (r .firstYear) k (c .from)
 
     -- it is a covered year
     pub year-from : r .firstYear ≤ yearWith r k
-    year-from = omega (arith, from-year-0 (r .firstYear), from-year-0 (yearWith r k), rain-water-by (r .firstYear) k (c .from), no-rain-water-by (yearWith r k) k (year-holds .to))
+    year-from = omega (arith, from-year-0 (r .firstYear), from-year-0 (yearWith r k), rain-water-fallen, dozen (yearWith r k) k year-holds)
 
     pub year-to : yearWith r k ≤ r .lastYear
     unfolding yearWith
     year-to = begun-to (firstMonth r) k (r .lastYear)
 
-    pub year-is : (y : ℕ) → Holds (firstMonth r) y k → yearWith r k ≡ y
+    pub year-is : (y : ℕ) → OfYear r y k → yearWith r k ≡ y
     year-is y h = one-year (yearWith r k) y k year-holds h
 
     -- the year is told by the last mid-term: one for each dozen after the Rain Water of the first covered year
-    pub rain-water-fallen : r .rainWater (r .firstYear) ≤ lastTerm r k
-    rain-water-fallen = rain-water-by (r .firstYear) k (c .from)
-
     pub year-told : r .firstYear + (lastTerm r k - r .rainWater (r .firstYear)) / 12 ≡ yearWith r k
-    year-told =
-        omega (arith, rain-water-fallen, from-year-0 (r .firstYear), from-year-0 (yearWith r k), rain-water-by (yearWith r k) k (year-holds .from), no-rain-water-by (yearWith r k) k (year-holds .to))
+    year-told = omega (arith, rain-water-fallen, from-year-0 (r .firstYear), from-year-0 (yearWith r k), dozen (yearWith r k) k year-holds)

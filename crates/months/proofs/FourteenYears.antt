@@ -1,6 +1,6 @@
 -- Fourteen consecutive years have at most 174 months, in any calendar whose mid-terms of fourteen years take less than 174 months do.
 use mathlib.Core.Path.{_≡_}
-use Prim.Native.Nat.{ℕ, _+_, _*_, _<_, _≤_}
+use Prim.Native.Nat.{ℕ, _+_, _<_, _≤_}
 use native.Mathlib.Omega.{arith}
 use Rattle.numbers.proofs.Spans.{later, span-to}
 use Rattle.means.proofs.MeanLaws as mean-laws
@@ -11,7 +11,7 @@ use Rattle.months.specs.declared.Calendar.the-variants.{Senmyo, Genka}
 use Rattle.months.specs.Rules.{Rules, senmyo, genka, rulesOf}
 use Rattle.months.specs.Months.{firstMonth}
 use Rattle.months.proofs.Steady.{Steady}
-use Rattle.months.proofs.FirstMonths.{opens, twelve-a-year}
+use Rattle.months.proofs.FirstMonths.{from-year-0, opens}
 use Rattle.months.proofs.Calendars.{senmyo-steady, genka-steady}
 
 record Fourteen (r : Rules) : Type 0 where
@@ -24,10 +24,11 @@ module _ (r : Rules) (s : Steady r) where
   unfolding firstMonth
   ends y n h f =
       let R = r .rainWater y in
-      let late = later (r .mid) (s .terms-grow) (R + 12 * n) (R + 168) (omega (arith, h)) in
+      let twelve : r .rainWater (y + n) ≤ R + 168 = omega (arith, from-year-0 r s y, from-year-0 r s (y + n)) in
+      let late = later (r .mid) (s .terms-grow) (r .rainWater (y + n)) (R + 168) twelve in
       let e : (firstMonth r y + 1) + 174 ≡ firstMonth r y + 174 + 1 = omega arith in
       let many : r .start (firstMonth r y + 1) + 5114 < r .start (firstMonth r y + 174 + 1) = rw e at (f .months (firstMonth r y + 1)) in
-      rw (twelve-a-year r s y n) (span-to (r .start) (s .months-grow) (firstMonth r y + 174) (r .mid (R + 12 * n)) (omega (arith, late, many, f .terms R, opens r s y .to)))
+      span-to (r .start) (s .months-grow) (firstMonth r y + 174) _ (omega (arith, f .terms R, opens r s y .to))
 
 pub at-most-174 : (c : Calendar) (y n : ℕ) → n ≤ 14 → firstMonth (rulesOf c) (y + n) ≤ firstMonth (rulesOf c) y + 174
 unfolding rulesOf

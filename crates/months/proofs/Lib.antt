@@ -1,3 +1,4 @@
+pub mod Order
 pub mod Steady
 pub mod Terms
 pub mod FirstMonths

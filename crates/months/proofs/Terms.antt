@@ -1,8 +1,8 @@
--- Mid-terms in months: a month is leap exactly if it has none, no month has two, and a month's number is that of the last mid-term by its end.
-use mathlib.Core.Path.{_≡_, refl, ap, _∙_}
-use mathlib.Core.Bool.{Bool, true, false}
+-- Mid-terms in months: a month is leap exactly if it has none, none has two, and a month's number is that of the last mid-term by its end.
+use mathlib.Core.Path.{_≡_, refl, sym, ap, _∙_}
+use mathlib.Core.Bool.{Bool, true, false, not-eq-not}
 use Prim.Native.Nat.{ℕ, zero, suc, _+_, _-_, _<_, _≤_}
-use native.Mathlib.Omega.{arith}
+use native.Mathlib.Omega.{arith, by-contra}
 use borrow.Author.Tests.{ltb-true, ltb-false, lt-ltb, le-ltb}
 use lib.Dec.{ltb}
 use Rattle.numbers.specs.Spans.{Holds}
@@ -10,16 +10,15 @@ use Rattle.numbers.proofs.Spans.{later, not-after, span-holds, span-is}
 use Rattle.months.specs.Rules.{Rules}
 use Rattle.months.specs.Months.{HasTerm, termNumber, lastTerm, isLeap, numberOf}
 use Rattle.months.specs.Year.{MonthDays}
-use Rattle.months.specs.Room.{lastTermOf}
+use Rattle.months.specs.Room.{IsLast, lastTermOf}
 use Rattle.months.proofs.Steady.{Steady}
 
 module _ (r : Rules) (s : Steady r) (k : ℕ) where
-  pub last-term : Holds (r .mid) (lastTerm r k) (r .start (k + 1) - 1)
+  pub last-term : IsLast r k (lastTerm r k)
   unfolding lastTerm
   last-term = span-holds (r .mid) (s .terms-grow) _
 
-  -- .. is the one that has fallen by then while the next has not
-  pub last-term-told : (j : ℕ) → Holds (r .mid) j (r .start (k + 1) - 1) → lastTerm r k ≡ j
+  pub last-term-told : (j : ℕ) → IsLast r k j → lastTerm r k ≡ j
   unfolding lastTerm
   last-term-told j h = span-is (r .mid) (s .terms-grow) j _ h
 
@@ -42,23 +41,14 @@ module _ (r : Rules) (s : Steady r) (k : ℕ) where
   not-leap-has e = record { from = ltb-false _ _ e; to = omega (arith, last-term .from, s .months-grow .grows k) }
 
   pub has-none-leap : ((j : ℕ) → HasTerm r k j → ⊥) → isLeap r k ≡ true
-  has-none-leap none = by-leap (isLeap r k) refl
-    where
-      by-leap : (b : Bool) → isLeap r k ≡ b → isLeap r k ≡ true
-      by-leap true e = e
-      by-leap false e = absurd (none (lastTerm r k) (not-leap-has e))
+  has-none-leap none = not-eq-not .0 (λ e. none (lastTerm r k) (not-leap-has e))
 
   -- no month of at most 30 days has two
   pub one-term : (i j : ℕ) → r .start (k + 1) ≤ r .start k + 30 → HasTerm r k i → HasTerm r k j → i ≡ j
-  one-term i j short h g = by-order (ltb i j) (ltb j i) refl refl
+  one-term i j short h g = omega (arith, by-contra j i (two i j h g), by-contra i j (two j i g h))
     where
       two : (i j : ℕ) → HasTerm r k i → HasTerm r k j → i < j → ⊥
-      two i j h g o = omega (arith, short, h .from, g .to, s .terms-apart i .at-least, later (r .mid) (s .terms-grow) (i + 1) j (omega (arith, o)))
-
-      by-order : (b c : Bool) → ltb i j ≡ b → ltb j i ≡ c → i ≡ j
-      by-order true c e d = absurd (two i j h g (ltb-true _ _ e))
-      by-order false true e d = absurd (two j i g h (ltb-true _ _ d))
-      by-order false false e d = omega (arith, ltb-false i j e, ltb-false j i d)
+      two i j h g o = omega (arith, s .terms-apart i .at-least, later (r .mid) (s .terms-grow) (i + 1) j (omega arith))
 
   pub last-term-is : (j : ℕ) → r .start (k + 1) ≤ r .start k + 30 → HasTerm r k j → lastTerm r k ≡ j
   last-term-is j short h = one-term (lastTerm r k) j short (not-leap-has (has-not-leap j h)) h
@@ -69,11 +59,10 @@ unfolding isLeap lastTerm
 last-before r s zero e = refl
 last-before r s (suc k) e =
     let before = ltb-true (r .mid (lastTerm r (suc k))) (r .start (suc k)) e in
-    let last = last-term r s (suc k) in
     let eve : suc k - 1 + 1 ≡ suc k = omega arith in
     rw eve
     (span-is (r .mid) (s .terms-grow) (lastTerm r (suc k)) (r .start (suc k) - 1)
-    (record { from = omega (arith, before); to = omega (arith, last .to, s .months-grow .grows (suc k)) }))
+    (omega (arith, last-term r s (suc k) .to, s .months-grow .grows (suc k))))
 
 pub number-of-leap : (r : Rules) (k : ℕ) → isLeap r k ≡ true → numberOf r k ≡ termNumber r (lastTerm r (k - 1))
 unfolding numberOf
@@ -88,46 +77,41 @@ number-of-last r s k = by-leap (isLeap r k) refl
     by-leap true e = number-of-leap r k e ∙ ap (termNumber r) (last-before r s k e)
     by-leap false e = rw (e, numberOf)
 
--- that mid-term told, and whether the month is leap
-pub last-told : (r : Rules) → Steady r → (k j : ℕ) (leap : Bool) → Holds (r .mid) j (r .start (k + 1) - 1) → ltb (r .mid j) (r .start k) ≡ leap → record { term = j; leap = leap } ≡ lastTermOf r k
-unfolding isLeap
-last-told r s k j leap h l = let e = last-term-told r s k j h in rw (e, l)
+-- a leap month takes the number of the month before it
+pub number-before : (r : Rules) → Steady r → (k : ℕ) → isLeap r k ≡ true → numberOf r k ≡ numberOf r (k - 1)
+number-before r s k e = number-of-leap r k e ∙ sym (number-of-last r s (k - 1))
 
--- ---- the same found from the last mid-term by day 30, be the month of 29 days or of 30
+module _ (r : Rules) (s : Steady r) (k j : ℕ) where
+  -- that mid-term told, and whether the month is leap
+  pub last-told : (leap : Bool) → IsLast r k j → ltb (r .mid j) (r .start k) ≡ leap → record { term = j; leap = leap } ≡ lastTermOf r k
+  unfolding isLeap
+  last-told leap h l = let e = last-term-told r s k j h in rw (e, l)
 
-module _ (r : Rules) (s : Steady r) (k j : ℕ) (days : MonthDays r k) (by-30 : Holds (r .mid) j (r .start k + 29)) where
-  -- it falls before that day
-  pub before-day-30 : r .mid j < r .start k + 29 → Holds (r .mid) j (r .start (k + 1) - 1)
-  before-day-30 h = record { from = omega (arith, h, days .at-least); to = omega (arith, by-30 .to, days .at-most, days .at-least) }
+  -- .. and a month's name by that mid-term
+  pub name-told : IsLast r k j → (numberOf r k ≡ termNumber r j) × (isLeap r k ≡ ltb (r .mid j) (r .start k))
+  unfolding isLeap
+  name-told h = let e = last-term-told r s k j h in (rw (number-of-last r s k, e), rw e)
 
-  -- it falls on that day, and the month has it
-  pub on-day-30 : r .mid j < r .start (k + 1) → Holds (r .mid) j (r .start (k + 1) - 1)
-  on-day-30 h = record { from = omega (arith, h); to = omega (arith, by-30 .to, days .at-most) }
+  -- ---- the same found from the last mid-term by day 30, be the month of 29 days or of 30
 
-  -- the month ended before: then the last is the one before, and the month is leap
-  module _ (h : r .start (k + 1) ≤ r .mid j) where
-    pub not-term-0 : 1 ≤ j
-    not-term-0 = by-number j refl
-      where
-        by-number : (i : ℕ) → j ≡ i → 1 ≤ i
-        by-number zero e = absurd (omega (arith, rw e at h, days .at-least, s .terms-grow .zeroth))
-        by-number (suc i) e = omega arith
+  module _ (days : MonthDays r k) (by-30 : Holds (r .mid) j (r .start k + 29)) where
+    -- the month has it, or it falls before
+    pub before-end : r .mid j < r .start (k + 1) → IsLast r k j
+    before-end h = omega arith
 
-    term-before : r .mid (j - 1) + 30 ≤ r .mid j
-    term-before =
-        let on : j - 1 + 1 ≡ j = omega (arith, not-term-0) in
-        rw on at (s .terms-apart (j - 1) .at-least)
+    -- the month ended before: then the last is the one before, and the month is leap
+    module _ (h : r .start (k + 1) ≤ r .mid j) where
+      pub not-term-0 : 1 ≤ j
+      not-term-0 = by-contra 1 j (λ none. let e : j ≡ 0 = omega arith in omega (arith, rw e at h, s .terms-grow .zeroth))
 
-    pub past-end : Holds (r .mid) (j - 1) (r .start (k + 1) - 1)
-    past-end =
-        let on : j - 1 + 1 ≡ j = omega (arith, not-term-0) in
-        record { from = omega (arith, term-before, by-30 .from, days .at-least); to = rw on (omega (arith, h, days .at-least)) }
+      on : j - 1 + 1 ≡ j
+      on = omega (arith, not-term-0)
 
-    pub before-start : ltb (r .mid (j - 1)) (r .start k) ≡ true
-    before-start = lt-ltb (r .mid (j - 1)) (r .start k) (omega (arith, term-before, by-30 .from))
+      term-before : r .mid (j - 1) + 30 ≤ r .mid j
+      term-before = rw on at (s .terms-apart (j - 1) .at-least)
 
--- ---- and a month's name by that mid-term
+      pub past-end : IsLast r k (j - 1)
+      past-end = record { from = omega (arith, term-before); to = rw on (omega arith) }
 
-pub name-told : (r : Rules) → Steady r → (k j : ℕ) → Holds (r .mid) j (r .start (k + 1) - 1) → (numberOf r k ≡ termNumber r j) × (isLeap r k ≡ ltb (r .mid j) (r .start k))
-unfolding isLeap
-name-told r s k j h = let e = last-term-told r s k j h in (rw (number-of-last r s k, e), rw e)
+      pub before-start : ltb (r .mid (j - 1)) (r .start k) ≡ true
+      before-start = lt-ltb (r .mid (j - 1)) (r .start k) (omega (arith, term-before))

@@ -1,11 +1,11 @@
 -- Months of any calendar (01, "Months and leap", from "For both" on).
 use mathlib.Core.Bool.{Bool, true, false}
-use Prim.Native.Nat.{ℕ, _+_, _-_, _%_}
+use Prim.Native.Nat.{ℕ, _+_, _-_, _%_, _≤_}
 use lib.Dec.{ltb}
 use Rattle.numbers.specs.Spans.{Holds, lastBegun, spanOf}
 use Rattle.months.specs.declared.YearRange.{YearRange}
 use Rattle.months.specs.declared.Begun.{Begun}
-use Rattle.months.specs.Rules.{Rules}
+use Rattle.months.specs.Rules.{Rules, daysAt}
 
 -- the first covered year and the last
 abbrev pub coveredYears : Rules → YearRange
@@ -69,3 +69,10 @@ isLeap r k = ltb (r .mid (lastTerm r k)) (r .start k)
 -- months with a mid-term take its number; a month without one takes the number before it
 unfoldable pub numberOf : Rules → ℕ → ℕ
 numberOf r k = elim (isLeap r k) [ true ↦ termNumber r (lastTerm r (k - 1)) | false ↦ termNumber r (lastTerm r k) ]
+
+-- where the moons of month k stand: the new moon on its first day or on the eve, the full moon on its 14th to 17th day
+pub record MoonDays (r : Rules) (k : ℕ) : Type 0 where
+  pub new-from : r .start k ≤ daysAt (r .newMoon k) + 1
+  pub new-to : daysAt (r .newMoon k) ≤ r .start k
+  pub full-from : r .start k + 13 ≤ daysAt (r .fullMoon k)
+  pub full-to : daysAt (r .fullMoon k) ≤ r .start k + 16

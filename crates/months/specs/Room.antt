@@ -1,12 +1,17 @@
 -- What inner functions find, and what is asked of their callers, which have made sure of it. No rule of the calendar.
 use mathlib.Core.Path.{_≡_}
 use Prim.Native.Nat.{ℕ, _+_, _-_, _/_, _<_, _≤_, _^_}
+use Rattle.numbers.specs.Spans.{Holds}
 use Rattle.months.specs.declared.Begun.{Begun}
 use Rattle.months.specs.declared.LastTerm.{LastTerm}
 use Rattle.months.specs.Rules.{Rules}
 use Rattle.months.specs.Months.{begun, firstMonth, lastTerm, isLeap}
 
 -- ---- what is found
+
+-- mid-term j is the last by the end of month k: it has fallen by then, and the next has not
+abbrev pub IsLast : Rules → ℕ → ℕ → Type 0
+IsLast r k j = Holds (r .mid) j (r .start (k + 1) - 1)
 
 -- the last mid-term by the end of month k, and whether that month is leap
 abbrev pub lastTermOf : Rules → ℕ → LastTerm

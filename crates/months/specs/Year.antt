@@ -2,9 +2,9 @@
 use mathlib.Core.Path.{_≡_}
 use mathlib.Core.Bool.{true, false}
 use Prim.Native.Nat.{ℕ, _+_, _<_, _≤_}
-use Rattle.numbers.specs.Spans.{Takes}
+use Rattle.numbers.specs.Spans.{Holds, Takes}
 use Rattle.months.specs.Rules.{Rules}
-use Rattle.months.specs.Months.{Has, HasTerm, firstMonth, monthCount, firstDay, nextFirstDay, numberOf, isLeap}
+use Rattle.months.specs.Months.{Has, HasTerm, firstMonth, monthCount, firstDay, termNumber, numberOf, isLeap}
 
 -- a month has 29 or 30 days
 abbrev pub MonthDays : Rules → ℕ → Type 0
@@ -14,10 +14,13 @@ MonthDays r k = Takes (r .start) k 29 30
 abbrev pub TermDays : Rules → ℕ → Type 0
 TermDays r j = Takes (r .mid) j 30 31
 
--- month k is one of year y's
-pub record OfYear (r : Rules) (y k : ℕ) : Type 0 where
-  pub from : firstMonth r y ≤ k
-  pub to : k < firstMonth r (y + 1)
+-- month k is one of year y's: from its month 1 to before the next year's
+abbrev pub OfYear : Rules → ℕ → ℕ → Type 0
+OfYear r y k = Holds (firstMonth r) y k
+
+-- day d lies in year y: from its first day to the eve of the next year's
+abbrev pub WithinYear : Rules → ℕ → ℕ → Type 0
+WithinYear r y d = Holds (firstDay r) y d
 
 -- exactly one month has day d, and it is one of year y's
 pub record OneMonth (r : Rules) (y d : ℕ) : Type 0 where
@@ -31,6 +34,7 @@ pub record Numbered (r : Rules) (y i k : ℕ) : Type 0 where
   pub number : numberOf r k ≡ i + 1
   pub not-leap : isLeap r k ≡ false
   pub holds : HasTerm r k (r .rainWater y + i)
+  pub term-number : termNumber r (r .rainWater y + i) ≡ i + 1
   pub no-other : (j : ℕ) → HasTerm r k j → j ≡ r .rainWater y + i
 
 -- month k is leap, after number n: it holds no mid-term
@@ -59,7 +63,8 @@ pub data TwelveOrThirteen (r : Rules) (y : ℕ) : Type 0 where
   thirteen : Thirteen r y → TwelveOrThirteen r y
 
 -- the months follow each other without gap or overlap, from the year's first day to the eve of the next year's, each of 29 or 30 days, and there are 12 or 13
-pub record Year (r : Rules) (y : ℕ) : Type 0 where
+pub record DemandedYear (r : Rules) (y : ℕ) : Type 0 where
   pub length : (k : ℕ) → OfYear r y k → MonthDays r k
-  pub one-month : (d : ℕ) → firstDay r y ≤ d → d < nextFirstDay r y → OneMonth r y d
+  pub one-month : (d : ℕ) → WithinYear r y d → OneMonth r y d
+  pub within-year : (k d : ℕ) → OfYear r y k → Has r k d → WithinYear r y d
   pub months : TwelveOrThirteen r y

@@ -7,8 +7,10 @@ use lib.IntN.{ℤ, pos, negℤ, _+ℤ_, _*ℤ_}
 use lib.ListN.{getD}
 use Rattle.numbers.specs.Sign.{plus, minus}
 use Rattle.numbers.specs.Rounding.{nearest}
+use Rattle.units.specs.declared.Fen.{Fen}
 use Rattle.units.specs.declared.AnomalySecond.{AnomalySecond}
-use Rattle.units.specs.Units.{dayFen}
+use Rattle.units.specs.Units.{fen, anomalySeconds, dayFen}
+use Rattle.moon.specs.declared.HalfSecond.{HalfSecond}
 
 -- how the correction changes in a day, in fen, as the page says it
 pub data Change : Type 0 where
@@ -72,42 +74,58 @@ rows false = lowerRows
 abbrev pub noRow : MoonRow
 noRow = row (Gain 0) 0
 
--- fen in half anomaly seconds
-abbrev pub fenToHalfSeconds : ℕ → ℕ
-fenToHalfSeconds f = f * 200
+-- half anomaly seconds, a unit for the half period's three places: 1/200 fen
+abbrev pub halfSeconds : ℕ → HalfSecond
+halfSeconds n = record { 0 = n }
 
--- the period in anomaly seconds, 231,458.19 fen, and its half in half anomaly seconds, 115,729.095 fen
-abbrev pub period : ℕ
-period = 231458_19
+-- a fen is 200
+abbrev pub fenToHalfSeconds : Fen → HalfSecond
+fenToHalfSeconds f = halfSeconds (f .0 * 200)
 
-abbrev pub halfPeriod : ℕ
-halfPeriod = 2 * period / 2
+-- an anomaly second is 2
+abbrev pub secondsToHalfSeconds : AnomalySecond → HalfSecond
+secondsToHalfSeconds s = halfSeconds (s .0 * 2)
 
--- a part of a fen, before it is rounded
-pub record Share : Type 0 where
+abbrev pub dayHalfSeconds : HalfSecond
+dayHalfSeconds = fenToHalfSeconds (fen dayFen)
+
+-- the period, 231,458.19 fen
+abbrev pub period : AnomalySecond
+period = anomalySeconds 231458_19
+
+-- its half, 115,729.095 fen
+abbrev pub halfPeriod : HalfSecond
+halfPeriod = halfSeconds (secondsToHalfSeconds period .0 / 2)
+
+-- so many fen over a divisor, before they are rounded
+pub record Fraction : Type 0 where
   pub numerator : ℤ
   pub divisor : ℕ
 
 -- sum + change × t/length
-abbrev pub part : ℕ → ℤ → ℕ → ℕ → Share
-part sum change t length = record { numerator = pos (sum * length) +ℤ change *ℤ pos t; divisor = length }
+abbrev pub sumAfter : ℕ → ℤ → HalfSecond → HalfSecond → Fraction
+sumAfter sum change t length = record { numerator = pos (sum * length .0) +ℤ change *ℤ pos (t .0); divisor = length .0 }
 
--- t half anomaly seconds into a row's day: gain positive, loss negative; row 7 gains up to 7465 fen and then loses; in row 14, 6529 stands for 8400
-unfoldable pub shareOf : Change → ℕ → ℕ → Share
-shareOf (Gain gain) sum t = part sum (plus gain) t (fenToHalfSeconds dayFen)
-shareOf (Loss loss) sum t = part sum (minus loss) t (fenToHalfSeconds dayFen)
+-- row 7 gains up to 7465 fen, and then loses; in row 14, 6529 stands for 8400
+abbrev pub gainingIn7 : HalfSecond
+gainingIn7 = fenToHalfSeconds (fen 7465)
+
+abbrev pub losingIn7 : HalfSecond
+losingIn7 = fenToHalfSeconds (fen 935)
+
+abbrev pub dayOf14 : HalfSecond
+dayOf14 = fenToHalfSeconds (fen 6529)
+
+-- t into a row's day: gain positive, loss negative
+unfoldable pub shareOf : Change → ℕ → HalfSecond → Fraction
+shareOf (Gain gain) sum t = sumAfter sum (plus gain) t dayHalfSeconds
+shareOf (Loss loss) sum t = sumAfter sum (minus loss) t dayHalfSeconds
 shareOf (GainThenLoss gain loss) sum t =
-    elim (leb t (fenToHalfSeconds 7465)) [
-      | true ↦ part sum (plus gain) t (fenToHalfSeconds 7465)
-      | false ↦ part (sum + gain) (minus loss) (t - fenToHalfSeconds 7465) (fenToHalfSeconds 935)
+    elim (leb (t .0) (gainingIn7 .0)) [
+      | true ↦ sumAfter sum (plus gain) t gainingIn7
+      | false ↦ sumAfter (sum + gain) (minus loss) (halfSeconds (t .0 - gainingIn7 .0)) losingIn7
     ]
-shareOf (FirstLoss loss) sum t = part sum (minus loss) t (fenToHalfSeconds 6529)
-
--- d whole days and t over into a half: row d + 1
-unfoldable pub inHalf : Bool → ℕ → Share
-inHalf upper h =
-    let w : MoonRow = getD (rows upper) (h / fenToHalfSeconds dayFen) noRow in
-    shareOf (w .change) (w .sum) (h % fenToHalfSeconds dayFen)
+shareOf (FirstLoss loss) sum t = sumAfter sum (minus loss) t dayOf14
 
 -- the upper half with plus, the lower with minus
 abbrev pub signed : Bool → ℤ → ℤ
@@ -115,12 +133,22 @@ signed true z = z
 signed false z = negℤ z
 
 -- rounded once, after the sign
-unfoldable pub halfOf : Bool → ℕ → ℤ
-halfOf upper h = nearest (signed upper (inHalf upper h .numerator)) (inHalf upper h .divisor)
+unfoldable pub inRow : Bool → MoonRow → HalfSecond → ℤ
+inRow upper w t =
+    let share : Fraction = shareOf (w .change) (w .sum) t in
+    nearest (signed upper (share .numerator)) (share .divisor)
 
--- the Moon's correction at a moment counted from the start of the count, in fen: modulo the period, the first half by the upper rows,
+-- d whole days and t over into a half: row d + 1
+unfoldable pub halfOf : Bool → HalfSecond → ℤ
+halfOf upper h = inRow upper (getD (rows upper) (h .0 / dayHalfSeconds .0) noRow) (halfSeconds (h .0 % dayHalfSeconds .0))
+
+-- a moment modulo the period
+abbrev pub inPeriod : AnomalySecond → HalfSecond
+inPeriod at = secondsToHalfSeconds (anomalySeconds (at .0 % period .0))
+
+-- the Moon's correction at a moment counted from the start of the count, in fen: the first half of the period by the upper rows,
 -- the second, less that half, by the lower
 unfoldable pub moonOf : AnomalySecond → ℤ
 moonOf at =
-    let h : ℕ = 2 * (at .0 % period) in
-    elim (ltb h halfPeriod) [ true ↦ halfOf true h | false ↦ halfOf false (h - halfPeriod) ]
+    let h : HalfSecond = inPeriod at in
+    elim (ltb (h .0) (halfPeriod .0)) [ true ↦ halfOf true h | false ↦ halfOf false (halfSeconds (h .0 - halfPeriod .0)) ]

@@ -1,16 +1,16 @@
 -- What inner functions find, and what is asked of callers, so that every number fits its word. No rule of the calendar.
 use mathlib.Core.Bool.{Bool}
-use Prim.Native.Nat.{ℕ, _*_, _/_, _%_, _<_, _≤_}
+use Prim.Native.Nat.{ℕ, _/_, _%_, _<_, _≤_}
 use lib.Dec.{ltb}
 use lib.IntN.{ℤ, pos, natAbs, _+ℤ_, _*ℤ_}
 use lib.ListN.{getD}
 use Rattle.numbers.specs.Sign.{plus, minus}
 use Rattle.numbers.specs.Rounding.{nearest}
 use Rattle.units.specs.declared.AnomalySecond.{AnomalySecond}
-use Rattle.units.specs.Units.{dayFen}
 use Rattle.moon.specs.declared.SignedRow.{SignedRow}
-use Rattle.moon.specs.declared.Place.{Place}
-use Rattle.moon.specs.Moon.{Change, Gain, Loss, GainThenLoss, FirstLoss, MoonRow, Share, rows, noRow, fenToHalfSeconds, period, halfPeriod, shareOf, signed}
+use Rattle.moon.specs.declared.HalfSecond.{HalfSecond}
+use Rattle.moon.specs.declared.RowPlace.{RowPlace}
+use Rattle.moon.specs.Moon.{Change, Gain, Loss, GainThenLoss, FirstLoss, MoonRow, rows, noRow, halfSeconds, dayHalfSeconds, halfPeriod, signed, inPeriod}
 
 -- the change at the start of a row's day, gain positive and loss negative
 abbrev pub firstChange : Change → ℤ
@@ -43,34 +43,28 @@ abbrev pub signedAt : ℕ → SignedRow
 signedAt place = signedRow (ltb place 14) (rowIn (ltb place 14) (place % 14))
 
 -- sum + change × over/length, rounded
-abbrev pub roundedPart : SignedRow → ℕ → ℕ → ℤ
-roundedPart row over length = nearest (row .1 *ℤ pos length +ℤ row .0 *ℤ pos over) length
+abbrev pub roundedPart : SignedRow → HalfSecond → HalfSecond → ℤ
+roundedPart row over length = nearest (row .1 *ℤ pos (length .0) +ℤ row .0 *ℤ pos (over .0)) (length .0)
 
--- a change and a sum, and how far into how long a part of a day
-pub record Part (row : SignedRow) (over length : ℕ) : Type 0 where
+-- a change and a sum, and how far into how long a part of a day, of which that can be worked out
+pub record RoundableRow (row : SignedRow) (over length : HalfSecond) : Type 0 where
   pub change-small : natAbs (row .0) ≤ 1000
   pub sum-small : natAbs (row .1) ≤ 5000
-  pub over-small : over ≤ fenToHalfSeconds dayFen
-  pub some : 0 < length
-  pub length-small : length ≤ fenToHalfSeconds dayFen
-
--- the correction so far into a half's row of a day, rounded once, after the sign
-unfoldable pub inRow : Bool → ℕ → ℕ → ℤ
-inRow upper day t =
-    let share : Share = shareOf (rowIn upper day .change) (rowIn upper day .sum) t in
-    nearest (signed upper (share .numerator)) (share .divisor)
+  pub over-small : over .0 ≤ dayHalfSeconds .0
+  pub some : 0 < length .0
+  pub length-small : length .0 ≤ dayHalfSeconds .0
 
 -- where a moment stands
-abbrev pub placeOf : AnomalySecond → Place
+abbrev pub placeOf : AnomalySecond → RowPlace
 placeOf at =
-    let h : ℕ = 2 * (at .0 % period) in
+    let h : ℕ = inPeriod at .0 in
     record {
-      upper = ltb h halfPeriod;
-      day = h % halfPeriod / fenToHalfSeconds dayFen;
-      over = record { 0 = h % halfPeriod % fenToHalfSeconds dayFen };
+      upper = ltb h (halfPeriod .0);
+      day = h % halfPeriod .0 / dayHalfSeconds .0;
+      over = halfSeconds (h % halfPeriod .0 % dayHalfSeconds .0);
     }
 
 -- a day of a half, and how far into that day
-pub record InTable (day over : ℕ) : Type 0 where
+pub record InTable (day : ℕ) (over : HalfSecond) : Type 0 where
   pub day-small : day < 14
-  pub over-small : over < fenToHalfSeconds dayFen
+  pub over-small : over .0 < dayHalfSeconds .0

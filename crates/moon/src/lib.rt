@@ -1,9 +1,9 @@
 use units::AnomalySecond;
 use units::FEN_IN_DAY;
 ghost use mathlib.Core.Path.{_≡_};
-ghost use Prim.Native.Nat.{_<_};
-ghost use Rattle.moon.specs.Moon.{signed, moonOf};
-ghost use Rattle.moon.specs.Room.{rowIn, signedRow, signedAt, lastChange, roundedPart, inRow, placeOf, Part, InTable};
+ghost use Prim.Native.Nat.{_*_, _<_, _^_};
+ghost use Rattle.moon.specs.Moon.{secondsToHalfSeconds, signed, inRow, moonOf};
+ghost use Rattle.moon.specs.Room.{rowIn, signedRow, signedAt, lastChange, roundedPart, placeOf, RoundableRow, InTable};
 
 // Half an anomaly second, 1/200 fen: the half period is not whole in anomaly seconds.
 struct HalfSecond(u64);
@@ -12,17 +12,20 @@ struct HalfSecond(u64);
 struct SignedRow(i64, i64);
 
 // Where a moment stands: in which half, on which day of it, from 0, and how far into that day.
-struct Place {
+struct RowPlace {
     upper: bool,
     day: usize,
     over: HalfSecond,
 }
 
-// From an apogee to the next, in anomaly seconds.
-const PERIOD: u64 = 231458_19;
+const HALF_SECONDS_IN_SECOND: u64 = 2;
 
-// Half of that, in half anomaly seconds.
-const HALF_PERIOD: u64 = 2 * PERIOD / 2;
+const HALF_SECONDS_IN_FEN: u64 = 200;
+
+// From an apogee to the next, and half of that.
+const PERIOD: AnomalySecond = AnomalySecond(231458_19);
+
+const HALF_PERIOD: HalfSecond = HalfSecond(PERIOD.0 * HALF_SECONDS_IN_SECOND / 2);
 
 const ROWS_IN_HALF: usize = 14;
 
@@ -31,14 +34,21 @@ const DAY_7: usize = 6;
 
 const DAY_14: usize = 13;
 
-// In half anomaly seconds: a day, the two parts of row 7, and what stands for a day in row 14.
-const DAY: u64 = FEN_IN_DAY * 200;
+// A day, the two parts of row 7, and what stands for a day in row 14.
+const DAY: HalfSecond = HalfSecond(FEN_IN_DAY * HALF_SECONDS_IN_FEN);
 
-const GAINING_IN_7: u64 = 7465 * 200;
+const GAINING_IN_7: HalfSecond = HalfSecond(7465 * HALF_SECONDS_IN_FEN);
 
-const LOSING_IN_7: u64 = 935 * 200;
+const LOSING_IN_7: HalfSecond = HalfSecond(935 * HALF_SECONDS_IN_FEN);
 
-const DAY_OF_14: u64 = 6529 * 200;
+const DAY_OF_14: HalfSecond = HalfSecond(6529 * HALF_SECONDS_IN_FEN);
+
+fn seconds_to_half_seconds(moment: AnomalySecond) -> HalfSecond
+    requires { ⌜ moment .0 * 2 < 2 ^ 64 ⌝ }
+    ensures { λ r. ⌜ r ≡ secondsToHalfSeconds moment ⌝ }
+{
+    HalfSecond(moment.0 * HALF_SECONDS_IN_SECOND)
+}
 
 // 003, Table 4, row by row: in the upper half a gain is positive and a loss negative; in the lower every sign is turned.
 fn signed_row(place: usize) -> SignedRow
@@ -97,8 +107,8 @@ fn last_in_7(upper: bool) -> i64
 
 // sum + change × over / length, rounded.
 fn rounded(row: SignedRow, over: HalfSecond, length: HalfSecond) -> i64
-    requires { ⌜ Part row (over .0) (length .0) ⌝ }
-    ensures { λ r. ⌜ r ≡ roundedPart row (over .0) (length .0) ⌝ }
+    requires { ⌜ RoundableRow row over length ⌝ }
+    ensures { λ r. ⌜ r ≡ roundedPart row over length ⌝ }
 {
     let numerator = row.1 * (length.0 as i64) + row.0 * (over.0 as i64);
     numbers::nearest_of(numerator, length.0)
@@ -106,45 +116,41 @@ fn rounded(row: SignedRow, over: HalfSecond, length: HalfSecond) -> i64
 
 // The correction so far into row 7, which gains first and then loses.
 fn in_row_7(upper: bool, over: HalfSecond) -> i64
-    requires { ⌜ InTable 6 (over .0) ⌝ }
-    ensures { λ r. ⌜ r ≡ inRow upper 6 (over .0) ⌝ }
+    requires { ⌜ InTable 6 over ⌝ }
+    ensures { λ r. ⌜ r ≡ inRow upper (rowIn upper 6) over ⌝ }
 {
     let row = row_of(upper, DAY_7);
-    if over.0 <= GAINING_IN_7 {
-        return rounded(row, over, HalfSecond(GAINING_IN_7));
+    if over.0 <= GAINING_IN_7.0 {
+        return rounded(row, over, GAINING_IN_7);
     }
     let end = SignedRow(last_in_7(upper), row.1 + row.0);
-    rounded(
-        end,
-        HalfSecond(over.0 - GAINING_IN_7),
-        HalfSecond(LOSING_IN_7),
-    )
+    rounded(end, HalfSecond(over.0 - GAINING_IN_7.0), LOSING_IN_7)
 }
 
 // The correction so far into a row. Each way names its length, so that the compiler divides by constants alone.
 fn in_row(upper: bool, day: usize, over: HalfSecond) -> i64
-    requires { ⌜ InTable day (over .0) ⌝ }
-    ensures { λ r. ⌜ r ≡ inRow upper day (over .0) ⌝ }
+    requires { ⌜ InTable day over ⌝ }
+    ensures { λ r. ⌜ r ≡ inRow upper (rowIn upper day) over ⌝ }
 {
     if day == DAY_7 {
         return in_row_7(upper, over);
     }
     let row = row_of(upper, day);
     if day == DAY_14 {
-        return rounded(row, over, HalfSecond(DAY_OF_14));
+        return rounded(row, over, DAY_OF_14);
     }
-    rounded(row, over, HalfSecond(DAY))
+    rounded(row, over, DAY)
 }
 
-fn place_of(at: AnomalySecond) -> Place
+fn place_of(at: AnomalySecond) -> RowPlace
     ensures { λ r. ⌜ r ≡ placeOf at ⌝ }
 {
-    let into = 2 * (at.0 % PERIOD);
-    let rest = into % HALF_PERIOD;
-    Place {
-        upper: into < HALF_PERIOD,
-        day: (rest / DAY) as usize,
-        over: HalfSecond(rest % DAY),
+    let into = seconds_to_half_seconds(AnomalySecond(at.0 % PERIOD.0));
+    let rest = into.0 % HALF_PERIOD.0;
+    RowPlace {
+        upper: into.0 < HALF_PERIOD.0,
+        day: (rest / DAY.0) as usize,
+        over: HalfSecond(rest % DAY.0),
     }
 }
 

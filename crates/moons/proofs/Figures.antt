@@ -3,7 +3,8 @@ use mathlib.Core.Path.{_≡_, refl}
 use mathlib.Core.Bool.{true, false}
 use Prim.Native.Nat.{_+_}
 use lib.Ieee.{binary64, round, toBits}
-use Rattle.numbers.specs.Answer.{given, refused}
+use Rattle.answers.specs.Answer.{given, refused}
+use Rattle.answers.specs.Conditions.{asking}
 use Rattle.numbers.specs.Rounding.{modulo}
 use Rattle.units.specs.Units.{fen}
 use Rattle.julian.specs.Julian.{rounded, instant}
@@ -16,7 +17,7 @@ use Rattle.months.specs.Rules.{senmyo, genka, rulesOf}
 use Rattle.months.proofs.Calendars.{senmyo-steady, genka-steady}
 use Rattle.months.proofs.Figures.{month-with}
 use Rattle.moons.specs.Eclipses.{fullMoonAt, eclipseOf}
-use Rattle.moons.specs.Instants.{instantIn, newMoonOf, fullMoonOf}
+use Rattle.moons.specs.Instants.{instantIn, ofMonth, newMoonOf, fullMoonOf}
 
 -- ---- eclipses
 
@@ -29,49 +30,49 @@ moon-1522 = refl
 pub eclipse-1522 : eclipseOf 1 1522 2 false ≡
     given
     (record { day = 2277039; fen = fen 6215; side = Yin; distance = fen 2241 }, record { kind = partial; parts = 14; remainder = 412; strong = true })
-unfolding eclipseOf rulesOf dayAt gradeOf
+unfolding asking eclipseOf rulesOf dayAt gradeOf
 eclipse-1522 = rw (month-with senmyo senmyo-steady 87454579 (senmyo .rainWater 1522 + 1) tt, moon-1522)
 
 -- Genka gives 13, also with a year and a month that are none
 genka-643 : eclipseOf 2 643 5 false ≡ refused 13
-unfolding eclipseOf
+unfolding asking eclipseOf
 genka-643 = refl
 
 genka-0 : eclipseOf 2 0 0 true ≡ refused 13
-unfolding eclipseOf
+unfolding asking eclipseOf
 genka-0 = refl
 
 calendar-3 : eclipseOf 3 1522 2 false ≡ refused 1
-unfolding eclipseOf
+unfolding asking eclipseOf
 calendar-3 = refl
 
 year-1685 : eclipseOf 1 1685 13 false ≡ refused 2
-unfolding eclipseOf rulesOf
+unfolding asking eclipseOf rulesOf
 year-1685 = refl
 
 month-13 : eclipseOf 1 1522 13 false ≡ refused 3
-unfolding eclipseOf rulesOf
+unfolding asking eclipseOf rulesOf
 month-13 = refl
 
 -- ---- instants
 
 -- 1522 month 5, whose first day is 2277114: its new moon, at 7941 fen, stands on the day before
 new-moon-1522 : newMoonOf 1 1522 5 false ≡ given (instant 2277113 7941 8400)
-unfolding newMoonOf rulesOf instantIn dayAt
+unfolding asking ofMonth newMoonOf rulesOf instantIn dayAt
 new-moon-1522 = rw (month-with senmyo senmyo-steady 87454582 (senmyo .rainWater 1522 + 4) tt)
 
 -- month 2: the full moon of its eclipse
 full-moon-1522 : fullMoonOf 1 1522 2 false ≡ given (instant 2277039 6215 8400)
-unfolding fullMoonOf rulesOf instantIn dayAt sunAt moonAt corrections fullMoon
+unfolding asking ofMonth fullMoonOf rulesOf instantIn dayAt sunAt moonAt corrections fullMoon
 full-moon-1522 = rw (month-with senmyo senmyo-steady 87454579 (senmyo .rainWater 1522 + 1) tt)
 
 -- 643 month 5 opens on day 1956057; its full moon is half a month later
 new-moon-643 : newMoonOf 2 643 5 false ≡ given (instant 1956057 212 1504)
-unfolding newMoonOf rulesOf instantIn
+unfolding asking ofMonth newMoonOf rulesOf instantIn
 new-moon-643 = rw (month-with genka genka-steady 73014 (genka .rainWater 643 + 4) tt)
 
 full-moon-643 : fullMoonOf 2 643 5 false ≡ given (instant 1956071 1363 1504)
-unfolding fullMoonOf rulesOf instantIn
+unfolding asking ofMonth fullMoonOf rulesOf instantIn
 full-moon-643 = rw (month-with genka genka-steady 73014 (genka .rainWater 643 + 4) tt)
 
 -- the eight bytes of an instant

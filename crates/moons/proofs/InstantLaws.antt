@@ -1,22 +1,22 @@
 -- Both moons together are the two single answers, and an instant that is given lies within 1/2^32 day of its moment.
 use mathlib.Core.Path.{_≡_, refl, subst}
-use mathlib.Core.Bool.{Bool, true, false, not}
+use mathlib.Core.Bool.{Bool, true, false}
+use mathlib.Core.List.{List, [], _∷_}
 use Prim.Native.Nat.{ℕ}
-use lib.Dec.{T}
-use lib.Ieee.{Float, isNan}
-use Rattle.numbers.specs.Answer.{given, need, then}
-use Rattle.numbers.proofs.Answers.{one-given}
+use lib.Ieee.{Float}
+use Rattle.answers.specs.Answer.{given, then}
+use Rattle.answers.specs.Conditions.{asking}
 use Rattle.julian.proofs.Nearness.{near-number}
 use Rattle.julian.proofs.Moment.{instant-near}
 use Rattle.months.specs.declared.Moment.{Moment}
 use Rattle.months.specs.Rules.{Rules}
 use Rattle.months.specs.Room.{Covering}
-use Rattle.asked.specs.Asked.{isCalendar, numbered, rulesFor, isCovered, monthNamed, hasMonth}
+use Rattle.asked.specs.Asked.{numbered, rulesFor, monthNamed}
 use Rattle.asked.proofs.Covered.{covered-year-told, name-found, month-covering}
 use Rattle.moons.specs.declared.Moons.{Moons}
 use Rattle.moons.specs.declared.Phase.{Phase}
 use Rattle.moons.specs.declared.Phase.the-variants.{New, Full}
-use Rattle.moons.specs.Instants.{instantIn, NearMoment, ofMonth, newMoonOf, fullMoonOf, moonsIn, moonsOf}
+use Rattle.moons.specs.Instants.{instantIn, NearMoment, ofMonth, newMoonOf, fullMoonOf, moonsIn, moonsOf, BothNumbers}
 use Rattle.moons.specs.Room.{momentIn, phaseOf, Dated}
 use Rattle.moons.proofs.Moments.{moon-dated}
 use Rattle.moons.proofs.Refusals.{of-given}
@@ -26,23 +26,18 @@ use Rattle.moons.proofs.Refusals.{of-given}
 abbrev pair : Float → Float → Moons
 pair new full = record { new = new; full = full }
 
-both-given : (a b c : Bool) (x y : Float) → need a 1 (need b 2 (need c 3 (given (pair x y)))) ≡ then (need a 1 (need b 2 (need c 3 (given x)))) (λ new. then (need a 1 (need b 2 (need c 3 (given y)))) (λ full. given (pair new full)))
-both-given true true true x y = refl
-both-given true true false x y = refl
-both-given true false c x y = refl
-both-given false b c x y = refl
+both-given : (conditions : List (Bool × ℕ)) (x y : Float) → asking conditions (pair x y) ≡ then (asking conditions x) (λ new. then (asking conditions y) (λ full. given (pair new full)))
+unfolding asking
+both-given [] x y = refl
+both-given ((true, n) ∷ rest) x y = both-given rest x y
+both-given ((false, n) ∷ rest) x y = refl
 
 -- both moons are the new moon and then the full moon, each as its own call gives it
 pub both-are-single : (c y m : ℕ) (leap : Bool) → moonsOf c y m leap ≡ then (newMoonOf c y m leap) (λ new. then (fullMoonOf c y m leap) (λ full. given (pair new full)))
-unfolding newMoonOf fullMoonOf moonsOf
-both-are-single c y m leap = both-given (isCalendar c) (isCovered (rulesFor c) y) (hasMonth (rulesFor c) y m leap) _ _
+unfolding ofMonth newMoonOf fullMoonOf moonsOf
+both-are-single c y m leap = both-given _ _ _
 
 -- ---- how near
-
--- neither of the two is nan
-pub record Numbers (p : Moons) : Type 0 where
-  pub new : T (not (isNan (p .new)))
-  pub full : T (not (isNan (p .full)))
 
 moment-near : (r : Rules) (t : Moment) → Dated r t → NearMoment r t (instantIn r t)
 unfolding instantIn
@@ -56,12 +51,12 @@ module _ (c y m : ℕ) (leap : Bool) where
   given-covering : {A : Type 0} (what : Rules → ℕ → A) (a : A) → ofMonth what c y m leap ≡ given a → Covering (rulesFor c) month
   given-covering what a e =
       let g = of-given c y m leap what a .only-if e in
-      let covered = covered-year-told (rulesFor c) y (g .1 .0) in
-      month-covering (numbered c) y covered month (name-found (numbered c) y covered m leap (g .1 .1 .0) .of-year)
+      let covered = covered-year-told (rulesFor c) y (g .0 .1 .0) in
+      month-covering (numbered c) y covered month (name-found (numbered c) y covered m leap (g .0 .1 .1 .0) .of-year)
 
   -- .. and the answer is that of the month
   given-is : {A : Type 0} (what : Rules → ℕ → A) (a : A) → ofMonth what c y m leap ≡ given a → what (rulesFor c) month ≡ a
-  given-is what a e = one-given (what (rulesFor c) month) a (of-given c y m leap what a .only-if e .1 .1 .1)
+  given-is what a e = of-given c y m leap what a .only-if e .1
 
   moon-near : (phase : Phase) (x : Float) → phaseOf phase c y m leap ≡ given x → NearMoment (rulesFor c) (momentIn phase (rulesFor c) month) x
   moon-near phase x e =
@@ -77,11 +72,11 @@ module _ (c y m : ℕ) (leap : Bool) where
   full-near x e = moon-near Full x e
 
   -- so both are numbers
-  pub both-numbers : (p : Moons) → moonsOf c y m leap ≡ given p → Numbers p
+  pub both-numbers : (p : Moons) → moonsOf c y m leap ≡ given p → BothNumbers p
   unfolding moonsOf
   both-numbers p e =
       let h = given-covering moonsIn p e in
-      subst Numbers (given-is moonsIn p e)
+      subst BothNumbers (given-is moonsIn p e)
       (record {
         new = near-number _ _ _ (moment-near _ _ (moon-dated (numbered c) month h New));
         full = near-number _ _ _ (moment-near _ _ (moon-dated (numbered c) month h Full));

@@ -1,10 +1,9 @@
 -- The moons of a covered month have Julian dates: they stand near its first day.
 use mathlib.Core.Path.{_≡_, refl}
-use Prim.Native.Nat.{ℕ, _+_, _*_, _%_, _<_, _≤_, _^_}
+use Prim.Native.Nat.{ℕ, _+_, _%_, _<_, _≤_, _^_}
 use native.Mathlib.Nat.{mod-lt}
 use native.Mathlib.Omega.{arith}
 use Rattle.units.specs.Units.{wholeDays}
-use Rattle.julian.specs.Julian.{numerator}
 use Rattle.senmyo.specs.Phases.{fullMoonFen}
 use Rattle.months.specs.declared.Calendar.{Calendar}
 use Rattle.months.specs.declared.Calendar.the-variants.{Senmyo, Genka}
@@ -15,7 +14,7 @@ use Rattle.months.proofs.Moments.{moon-days}
 use Rattle.months.proofs.CoveredYears.{edges, its-days, starts-covered, ends-covered}
 use Rattle.moons.specs.declared.Phase.{Phase}
 use Rattle.moons.specs.declared.Phase.the-variants.{New, Full}
-use Rattle.moons.specs.Instants.{dayNumberAt, partAt}
+use Rattle.moons.specs.Instants.{ExactNumerator}
 use Rattle.moons.specs.Room.{momentIn, Dated}
 
 -- units of a day: some, few, and an even number
@@ -56,11 +55,11 @@ module _ (c : Calendar) (k : ℕ) (h : Covering (rulesOf c) k) where
       dated (rulesOf c) _ (moon-units c Full k) (omega (arith, days .full-from, from-start)) (omega (arith, days .full-to, to-end))
 
 -- the day of Senmyo's full moon has a day number
-pub record Numbered (d : ℕ) : Type 0 where
+pub record HasDayNumber (d : ℕ) : Type 0 where
   pub from : senmyo .dayZero ≤ d
   pub to : d < senmyo .dayZero + 2 ^ 22
 
-pub full-numbered : (k : ℕ) → Covering senmyo k → Numbered (wholeDays (fullMoonFen k))
+pub full-numbered : (k : ℕ) → Covering senmyo k → HasDayNumber (wholeDays (fullMoonFen k))
 unfolding rulesOf
 full-numbered k h =
     let t = moon-dated Senmyo k h Full in
@@ -68,11 +67,7 @@ full-numbered k h =
 
 -- ---- the numerator of an instant, over whole numbers
 
--- it is the moment less the days up to day number 0 and half a day: nothing is cut off on the way
-pub record Exact (r : Rules) (t : Moment) : Type 0 where
-  pub doubled : 2 * numerator (dayNumberAt r t) (partAt t) (t .«of_day») + (2 * r .dayZero + 1) * t .«of_day» ≡ 2 * t .units
-
-pub moon-exact : (c : Calendar) (phase : Phase) (k : ℕ) → Covering (rulesOf c) k → Exact (rulesOf c) (momentIn phase (rulesOf c) k)
+pub moon-exact : (c : Calendar) (phase : Phase) (k : ℕ) → Covering (rulesOf c) k → ExactNumerator (rulesOf c) (momentIn phase (rulesOf c) k)
 unfolding rulesOf
 moon-exact Senmyo New k h = let t = moon-dated Senmyo k h New in record { doubled = omega (arith, t .after-zero, t .datable .from) }
 moon-exact Senmyo Full k h = let t = moon-dated Senmyo k h Full in record { doubled = omega (arith, t .after-zero, t .datable .from) }

@@ -1,7 +1,7 @@
 -- Two answers that mean the same are one, so that a contract that says what an answer means fixes it.
 use mathlib.Core.Path.{_≡_, ap}
 use Rattle.numbers.specs.OneResult.{OneResult}
-use Rattle.numbers.proofs.Answers.{one-given}
+use Rattle.answers.proofs.Answers.{one-given}
 use Rattle.numbers.proofs.OneResult.{one}
 use Rattle.eclipse.specs.Eclipse.{Graded}
 use Rattle.eclipse.specs.Answers.{gradeMeans}

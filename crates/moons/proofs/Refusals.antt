@@ -4,16 +4,17 @@ use mathlib.Core.Bool.{Bool, true, false}
 use Prim.Native.Nat.{ℕ, _<_}
 use native.Mathlib.Nat.{mod-lt}
 use native.Mathlib.Omega.{arith}
-use Rattle.numbers.specs.Answer.{given, refused}
-use Rattle.numbers.proofs.Answers.{Exactly, after, gives, refuses, passes, never, not-refused, one-given}
+use Rattle.answers.specs.Answer.{given, refused}
+use Rattle.answers.specs.Conditions.{AllHold, FirstFails, Exactly}
+use Rattle.answers.proofs.Conditions.{given-exactly, refused-exactly}
 use Rattle.units.specs.Units.{dayFen}
 use Rattle.eclipse.specs.Eclipse.{Graded}
 use Rattle.eclipse.proofs.NodeLaws.{distance-small}
 use Rattle.senmyo.specs.FullMoons.{nodePlaceAt}
 use Rattle.months.specs.Rules.{Rules}
-use Rattle.asked.specs.Asked.{isCalendar, rulesFor, isCovered, monthNamed, hasMonth}
+use Rattle.asked.specs.Asked.{isCalendar, rulesFor, isCovered, monthNamed, hasMonth, monthConditions}
 use Rattle.moons.specs.declared.FullMoon.{FullMoon}
-use Rattle.moons.specs.Eclipses.{fullMoonAt, eclipseIn, isSenmyo, eclipseOf}
+use Rattle.moons.specs.Eclipses.{fullMoonAt, eclipseIn, isSenmyo, eclipseConditions, eclipseOf}
 use Rattle.moons.specs.Instants.{ofMonth}
 
 module _ (c y m : ℕ) (leap : Bool) where
@@ -26,55 +27,54 @@ module _ (c y m : ℕ) (leap : Bool) where
   -- ---- instants, and whatever else is asked of a month of either calendar
 
   module _ {A : Type 0} (what : Rules → ℕ → A) where
-    abbrev answer : A
-    answer = what (rulesFor c) (monthNamed (rulesFor c) y m leap)
+    pub of-given : (a : A) → Exactly (ofMonth what c y m leap ≡ given a) (AllHold (monthConditions c y m leap) × (what (rulesFor c) (monthNamed (rulesFor c) y m leap) ≡ a))
+    unfolding ofMonth
+    of-given a = given-exactly _ _ a
 
-    pub of-given : (a : A) → Exactly (ofMonth what c y m leap ≡ given a) ((isCalendar c ≡ true) × ((covered ≡ true) × ((has ≡ true) × (given answer ≡ given a))))
-    of-given a = after (gives 1 _ _ a) (after (gives 2 _ _ a) (gives 3 _ _ a))
+    pub of-refused : (n : ℕ) → Exactly (ofMonth what c y m leap ≡ refused n) (FirstFails (monthConditions c y m leap) n)
+    unfolding ofMonth
+    of-refused n = refused-exactly _ _ n
 
     pub of-refused-1 : Exactly (ofMonth what c y m leap ≡ refused 1) (isCalendar c ≡ false)
-    of-refused-1 = refuses 1 _ _ (never 2 _ covered 1 (λ e. omega (arith, e)) (never 3 _ has 1 (λ e. omega (arith, e)) (not-refused 1 answer)))
+    of-refused-1 = of-refused 1
 
     pub of-refused-2 : Exactly (ofMonth what c y m leap ≡ refused 2) ((isCalendar c ≡ true) × (covered ≡ false))
-    of-refused-2 = after (passes 1 _ _ 2 (λ e. omega (arith, e))) (refuses 2 _ _ (never 3 _ has 2 (λ e. omega (arith, e)) (not-refused 2 answer)))
+    of-refused-2 = of-refused 2
 
     pub of-refused-3 : Exactly (ofMonth what c y m leap ≡ refused 3) ((isCalendar c ≡ true) × ((covered ≡ true) × (has ≡ false)))
-    of-refused-3 = after (passes 1 _ _ 3 (λ e. omega (arith, e))) (after (passes 2 _ _ 3 (λ e. omega (arith, e))) (refuses 3 _ _ (not-refused 3 answer)))
+    of-refused-3 = of-refused 3
 
   -- ---- eclipses
 
-  abbrev eclipse : FullMoon × Graded
-  eclipse = eclipseIn (monthNamed (rulesFor c) y m leap)
-
-  pub eclipse-given : (e : FullMoon × Graded) → Exactly (eclipseOf c y m leap ≡ given e) ((isCalendar c ≡ true) × ((isSenmyo c ≡ true) × ((covered ≡ true) × ((has ≡ true) × (given eclipse ≡ given e)))))
+  pub eclipse-given : (e : FullMoon × Graded) → Exactly (eclipseOf c y m leap ≡ given e) (AllHold (eclipseConditions c y m leap) × (eclipseIn (monthNamed (rulesFor c) y m leap) ≡ e))
   unfolding eclipseOf
-  eclipse-given e = after (gives 1 _ _ e) (after (gives 13 _ _ e) (after (gives 2 _ _ e) (gives 3 _ _ e)))
+  eclipse-given e = given-exactly _ _ e
+
+  pub eclipse-refused : (n : ℕ) → Exactly (eclipseOf c y m leap ≡ refused n) (FirstFails (eclipseConditions c y m leap) n)
+  unfolding eclipseOf
+  eclipse-refused n = refused-exactly _ _ n
 
   pub eclipse-refused-1 : Exactly (eclipseOf c y m leap ≡ refused 1) (isCalendar c ≡ false)
-  unfolding eclipseOf
-  eclipse-refused-1 = refuses 1 _ _ (never 13 _ (isSenmyo c) 1 (λ e. omega (arith, e)) (never 2 _ covered 1 (λ e. omega (arith, e)) (never 3 _ has 1 (λ e. omega (arith, e)) (not-refused 1 eclipse))))
+  eclipse-refused-1 = eclipse-refused 1
 
   pub eclipse-refused-13 : Exactly (eclipseOf c y m leap ≡ refused 13) ((isCalendar c ≡ true) × (isSenmyo c ≡ false))
-  unfolding eclipseOf
-  eclipse-refused-13 = after (passes 1 _ _ 13 (λ e. omega (arith, e))) (refuses 13 _ _ (never 2 _ covered 13 (λ e. omega (arith, e)) (never 3 _ has 13 (λ e. omega (arith, e)) (not-refused 13 eclipse))))
+  eclipse-refused-13 = eclipse-refused 13
 
   pub eclipse-refused-2 : Exactly (eclipseOf c y m leap ≡ refused 2) ((isCalendar c ≡ true) × ((isSenmyo c ≡ true) × (covered ≡ false)))
-  unfolding eclipseOf
-  eclipse-refused-2 = after (passes 1 _ _ 2 (λ e. omega (arith, e))) (after (passes 13 _ _ 2 (λ e. omega (arith, e))) (refuses 2 _ _ (never 3 _ has 2 (λ e. omega (arith, e)) (not-refused 2 eclipse))))
+  eclipse-refused-2 = eclipse-refused 2
 
   pub eclipse-refused-3 : Exactly (eclipseOf c y m leap ≡ refused 3) ((isCalendar c ≡ true) × ((isSenmyo c ≡ true) × ((covered ≡ true) × (has ≡ false))))
-  unfolding eclipseOf
-  eclipse-refused-3 = after (passes 1 _ _ 3 (λ e. omega (arith, e))) (after (passes 13 _ _ 3 (λ e. omega (arith, e))) (after (passes 2 _ _ 3 (λ e. omega (arith, e))) (refuses 3 _ _ (not-refused 3 eclipse))))
+  eclipse-refused-3 = eclipse-refused 3
 
 -- ---- how large a full moon's numbers are
 
-pub record Narrow (m : FullMoon) : Type 0 where
+pub record Bounded (m : FullMoon) : Type 0 where
   pub fen-below : m .fen .0 < dayFen
   pub distance-below : m .distance .0 < 120000
 
-at-full-moon : (k : ℕ) → Narrow (fullMoonAt k)
+at-full-moon : (k : ℕ) → Bounded (fullMoonAt k)
 unfolding fullMoonAt
 at-full-moon k = record { fen-below = mod-lt _ (omega arith); distance-below = distance-small (nodePlaceAt k) }
 
-pub moon-narrow : (c y m : ℕ) (leap : Bool) (e : FullMoon × Graded) → eclipseOf c y m leap ≡ given e → Narrow (e .0)
-moon-narrow c y m leap e h = rw (sym (one-given _ e (eclipse-given c y m leap e .only-if h .1 .1 .1 .1))) (at-full-moon _)
+pub moon-bounded : (c y m : ℕ) (leap : Bool) (e : FullMoon × Graded) → eclipseOf c y m leap ≡ given e → Bounded (e .0)
+moon-bounded c y m leap e h = rw (sym (eclipse-given c y m leap e .only-if h .1)) (at-full-moon _)

@@ -1,6 +1,6 @@
 -- What each answer stands for: the values asked for, or the refusal's number.
 use lib.Ieee.{Float}
-use Rattle.numbers.specs.Answer.{Answer, given, refused}
+use Rattle.answers.specs.Answer.{Answer, given, refused}
 use Rattle.eclipse.specs.Eclipse.{Graded}
 use Rattle.eclipse.specs.Answers.{gradeMeans}
 use Rattle.moons.specs.declared.FullMoon.{FullMoon}

@@ -1,14 +1,16 @@
 -- Lunar eclipses by month (01, "Lunar eclipse, Senmyo only" and "Refusal numbers").
 use mathlib.Core.Bool.{Bool}
+use mathlib.Core.List.{List, [], _∷_, _++_}
 use Prim.Native.Nat.{ℕ}
 use lib.Dec.{eqb}
-use Rattle.numbers.specs.Answer.{Answer, given, need}
+use Rattle.answers.specs.Answer.{Answer}
+use Rattle.answers.specs.Conditions.{asking}
 use Rattle.units.specs.Units.{wholeDays, fenOfDay}
 use Rattle.eclipse.specs.Eclipse.{Graded, gradeOf}
 use Rattle.senmyo.specs.Phases.{fullMoonFen}
 use Rattle.senmyo.specs.FullMoons.{nodeAt}
-use Rattle.months.specs.Rules.{Rules, senmyo, dayNumber}
-use Rattle.asked.specs.Asked.{isCalendar, rulesFor, isCovered, monthNamed, hasMonth}
+use Rattle.months.specs.Rules.{senmyo, dayNumber}
+use Rattle.asked.specs.Asked.{rulesFor, isCovered, monthNamed, hasMonth, calendarConditions}
 use Rattle.moons.specs.declared.FullMoon.{FullMoon}
 
 -- the full moon of month k: its day and fen, never put back a day, and the side and distance from the node
@@ -30,7 +32,12 @@ abbrev pub isSenmyo : ℕ → Bool
 isSenmyo c = eqb c 1
 
 -- the eclipse of a month that is named
+abbrev pub eclipseConditions : ℕ → ℕ → ℕ → Bool → List (Bool × ℕ)
+eclipseConditions c y m leap =
+    calendarConditions c ++
+    (isSenmyo c, 13) ∷
+    (isCovered (rulesFor c) y, 2) ∷
+    (hasMonth (rulesFor c) y m leap, 3) ∷ []
+
 unfoldable pub eclipseOf : ℕ → ℕ → ℕ → Bool → Answer (FullMoon × Graded)
-eclipseOf c y m leap =
-    let r : Rules = rulesFor c in
-    need (isCalendar c) 1 (need (isSenmyo c) 13 (need (isCovered r y) 2 (need (hasMonth r y m leap) 3 (given (eclipseIn (monthNamed r y m leap))))))
+eclipseOf c y m leap = asking (eclipseConditions c y m leap) (eclipseIn (monthNamed (rulesFor c) y m leap))

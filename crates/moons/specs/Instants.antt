@@ -1,12 +1,15 @@
 -- Both moons of a month as Julian dates (01, "Instants for the chart" and "Refusal numbers").
-use mathlib.Core.Bool.{Bool}
-use Prim.Native.Nat.{ℕ, _%_}
-use lib.Ieee.{Float}
-use Rattle.numbers.specs.Answer.{Answer, given, need}
+use mathlib.Core.Path.{_≡_}
+use mathlib.Core.Bool.{Bool, not}
+use Prim.Native.Nat.{ℕ, _+_, _*_, _%_}
+use lib.Dec.{T}
+use lib.Ieee.{Float, isNan}
+use Rattle.answers.specs.Answer.{Answer}
+use Rattle.answers.specs.Conditions.{asking}
 use Rattle.julian.specs.Julian.{numerator, instant, Near}
 use Rattle.months.specs.declared.Moment.{Moment}
 use Rattle.months.specs.Rules.{Rules, daysAt, dayNumber}
-use Rattle.asked.specs.Asked.{isCalendar, rulesFor, isCovered, monthNamed, hasMonth}
+use Rattle.asked.specs.Asked.{rulesFor, monthNamed, monthConditions}
 use Rattle.moons.specs.declared.Moons.{Moons}
 
 -- the day number of a moment, and the units of the day gone
@@ -24,11 +27,13 @@ instantIn r t = instant (dayNumberAt r t) (partAt t) (t .«of_day»)
 abbrev pub NearMoment : Rules → Moment → Float → Type 0
 NearMoment r t x = Near (numerator (dayNumberAt r t) (partAt t) (t .«of_day»)) (t .«of_day») x
 
+-- its numerator is the moment less the days up to day number 0 and half a day: nothing is cut off on the way
+pub record ExactNumerator (r : Rules) (t : Moment) : Type 0 where
+  pub doubled : 2 * numerator (dayNumberAt r t) (partAt t) (t .«of_day») + (2 * r .dayZero + 1) * t .«of_day» ≡ 2 * t .units
+
 -- what is asked of a month that is named
-abbrev pub ofMonth : {A : Type 0} → (Rules → ℕ → A) → ℕ → ℕ → ℕ → Bool → Answer A
-ofMonth what c y m leap =
-    let r : Rules = rulesFor c in
-    need (isCalendar c) 1 (need (isCovered r y) 2 (need (hasMonth r y m leap) 3 (given (what r (monthNamed r y m leap)))))
+unfoldable pub ofMonth : {A : Type 0} → (Rules → ℕ → A) → ℕ → ℕ → ℕ → Bool → Answer A
+ofMonth what c y m leap = asking (monthConditions c y m leap) (what (rulesFor c) (monthNamed (rulesFor c) y m leap))
 
 -- its new moon, before any advance
 abbrev pub newMoonIn : Rules → ℕ → Float
@@ -50,3 +55,8 @@ moonsIn r k = record { new = newMoonIn r k; full = fullMoonIn r k }
 
 unfoldable pub moonsOf : ℕ → ℕ → ℕ → Bool → Answer Moons
 moonsOf c y m leap = ofMonth moonsIn c y m leap
+
+-- neither of the two is a nan
+pub record BothNumbers (p : Moons) : Type 0 where
+  pub new : T (not (isNan (p .new)))
+  pub full : T (not (isNan (p .full)))

@@ -2,7 +2,7 @@
 use mathlib.Core.Bool.{Bool}
 use Prim.Native.Nat.{ℕ, _≤_}
 use lib.Ieee.{Float}
-use Rattle.numbers.specs.Answer.{Answer}
+use Rattle.answers.specs.Answer.{Answer}
 use Rattle.julian.specs.Room.{Datable}
 use Rattle.months.specs.declared.Moment.{Moment}
 use Rattle.months.specs.Rules.{Rules, daysAt}

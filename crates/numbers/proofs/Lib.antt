@@ -6,7 +6,6 @@ pub mod Rounding
 pub mod Tests
 pub mod Arms
 pub mod Spans
-pub mod Answers
 pub mod Places
 pub mod Same
 pub mod OneResult

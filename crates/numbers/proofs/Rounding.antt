@@ -11,36 +11,35 @@ use lib.Signed.{_≤ℤ_, leZ, leZ-yes}
 use mir.Facts.{and-yes}
 use Rattle.numbers.specs.Sign.{plus, minus}
 use Rattle.numbers.specs.Rounding.{floor, nearest, modulo}
-use Rattle.numbers.specs.Difference.{Is, Difference}
-use Rattle.numbers.proofs.Difference.{is-pos, is-neg, is-add, is-mul, is-parts, is-sub, is-same}
-use Rattle.numbers.proofs.Order.{is-le, le-is, ≤ℤ-trans}
+use Rattle.numbers.specs.Between.{Between}
+use Rattle.numbers.proofs.Difference.{Is, is-pos, is-neg, is-add, is-mul, is-parts, is-sub, is-same}
+use Rattle.numbers.proofs.Order.{is-le, ≤ℤ-trans, pos-le, ≤ℤ-add, ≤ℤ-mul}
+
+-- halves go upward on both sides of zero
+halves : map (λ (z : ℤ). nearest z 2) (minus 3 ∷ minus 1 ∷ plus 1 ∷ plus 3 ∷ []) ≡ minus 1 ∷ plus 0 ∷ plus 1 ∷ plus 2 ∷ []
+unfolding nearest
+halves = refl
 
 div-mono : {m n : ℕ} (d : ℕ) → 0 < d → m ≤ n → m / d ≤ n / d
 div-mono {m} {n} d p h = le-div-iff-mul-le p .1 (le-trans (div-mul-le-self m d) h)
 
-floor-order : (x y : ℤ) (d : ℕ) → 0 < d → T (leZ x y) → T (leZ (floor x d) (floor y d))
-floor-order (pos m) (pos n) d p h = le→leb (m / d) (n / d) (div-mono d p (leb→le m n h))
-floor-order (pos m) (negsuc n) d p h = absurd h
-floor-order (negsuc m) (pos n) d p h = tt
-floor-order (negsuc m) (negsuc n) d p h = le→leb (n / d) (m / d) (div-mono d p (leb→le n m h))
-
-pub floor-mono : {x y : ℤ} (d : ℕ) → 0 < d → x ≤ℤ y → floor x d ≤ℤ floor y d
-floor-mono {x} {y} d p h = leZ-yes (floor-order x y d p (h .le))
+floor-mono : {x y : ℤ} (d : ℕ) → 0 < d → x ≤ℤ y → floor x d ≤ℤ floor y d
+floor-mono {x = pos m} {y = pos n} d p h = leZ-yes (le→leb (m / d) (n / d) (div-mono d p (leb→le m n (h .le))))
+floor-mono {x = pos m} {y = negsuc n} d p h = absurd (h .le)
+floor-mono {x = negsuc m} {y = pos n} d p h = leZ-yes tt
+floor-mono {x = negsuc m} {y = negsuc n} d p h = leZ-yes (le→leb (n / d) (m / d) (div-mono d p (leb→le n m (h .le))))
 
 pub nearest-mono : {x y : ℤ} (d : ℕ) → 0 < d → x ≤ℤ y → nearest x d ≤ℤ nearest y d
 unfolding nearest
-nearest-mono {x} {y} d p h =
-    floor-mono (2 * d) (omega arith)
-    (is-le (is-add (is-mul 2 (is-parts x)) (is-pos d)) (is-add (is-mul 2 (is-parts y)) (is-pos d))
-    (omega (arith, le-is (is-parts x) (is-parts y) h)))
+nearest-mono d p h = floor-mono (2 * d) (omega arith) (≤ℤ-add (≤ℤ-mul 2 h) (pos-le {m = d} (omega arith)))
 
 pub nearest-pos : (n d : ℕ) → pos 0 ≤ℤ nearest (pos n) d
 unfolding nearest
-nearest-pos n d = is-le (is-pos 0) (is-pos _) (omega arith)
+nearest-pos n d = pos-le (omega arith)
 
 -- the floor is at most the quotient ..
 pub floor-low : (z : ℤ) (d : ℕ) → 0 < d → (floor z d *ℤ pos d) ≤ℤ z
-floor-low (pos n) d p = is-le (is-pos (n / d * d)) (is-pos n) (omega (arith, div-mul-le-self n d))
+floor-low (pos n) d p = pos-le (div-mul-le-self n d)
 floor-low (negsuc n) d p =
     is-le (is-neg (is-pos (suc (n / d) * d))) (is-neg (is-pos (suc n)))
     (omega (arith, suc-mul (n / d) d, div-add-mod' n d, mod-lt n p))
@@ -54,34 +53,16 @@ floor-high (negsuc n) d p =
     is-le (is-sub 1 (suc n)) (is-mul d (is-sub 1 (suc (n / d))))
     (omega (arith, suc-mul (n / d) d, one-mul d, div-mul-le-self n d))
 
--- halves go upward on both sides of zero
-halves : map (λ (z : ℤ). nearest z 2) (minus 3 ∷ minus 1 ∷ plus 1 ∷ plus 3 ∷ []) ≡ minus 1 ∷ plus 0 ∷ plus 1 ∷ plus 2 ∷ []
-unfolding nearest
-halves = refl
-
-pub record Between (low z high : ℤ) : Type 0 where
-  pub from : low ≤ℤ z
-  pub to : z ≤ℤ high
-
--- the same as a test that computes
-abbrev pub between : ℤ → ℤ → ℤ → Bool
-between low z high = leZ low z && leZ z high
-
-pub between-yes : (low z high : ℤ) → T (between low z high) → Between low z high
-between-yes low z high t =
-    let both = and-yes (leZ low z) (leZ z high) t in
-    record { from = leZ-yes (both .0); to = leZ-yes (both .1) }
-
 -- the numerator a + b r runs along a line: if what its two ends round to lies from low to high, so does what is between
-pub between-ends : (low high a b : ℤ) (end d : ℕ) → 0 < d → Between low (nearest a d) high → Between low (nearest (a +ℤ b *ℤ pos end) d) high → (r : ℕ) → r ≤ end → Between low (nearest (a +ℤ b *ℤ pos r) d) high
-between-ends low high a (pos s) end d p first last r h =
+along : (low high a b : ℤ) (end d : ℕ) → 0 < d → Between low (nearest a d) high → Between low (nearest (a +ℤ b *ℤ pos end) d) high → (r : ℕ) → r ≤ end → Between low (nearest (a +ℤ b *ℤ pos r) d) high
+along low high a (pos s) end d p first last r h =
     let near = is-add (is-parts a) (is-pos (s * r)) in
     let far = is-add (is-parts a) (is-pos (s * end)) in
     record {
       from = ≤ℤ-trans (first .from) (nearest-mono d p (is-le (is-parts a) near (omega arith)));
       to = ≤ℤ-trans (nearest-mono d p (is-le near far (omega (arith, mul-le-mul-left s h)))) (last .to);
     }
-between-ends low high a (negsuc s) end d p first last r h =
+along low high a (negsuc s) end d p first last r h =
     let near = is-add (is-parts a) (is-neg (is-pos (suc s * r))) in
     let far = is-add (is-parts a) (is-neg (is-pos (suc s * end))) in
     record {
@@ -89,14 +70,29 @@ between-ends low high a (negsuc s) end d p first last r h =
       to = ≤ℤ-trans (nearest-mono d p (is-le near (is-parts a) (omega arith))) (first .to);
     }
 
-modulo-of : (z : ℤ) (n d : ℕ) → Difference z n d → modulo z d ≡ n % d
-unfolding modulo
-modulo-of (pos m) n d e = rw e (sym (add-mod-left d m))
-modulo-of (negsuc m) n d e = rw (mod-eq-of-lt {n = m} {m = d} (omega arith), mod-eq-of-lt {n = n} {m = d} (omega arith)) (omega arith)
+abbrev between : ℤ → ℤ → ℤ → Bool
+between low z high = leZ low z && leZ z high
+
+between-yes : (low z high : ℤ) → T (between low z high) → Between low z high
+between-yes low z high t =
+    let both = and-yes (leZ low z) (leZ z high) t in
+    record { from = leZ-yes (both .0); to = leZ-yes (both .1) }
+
+-- .. where both ends are tested
+abbrev pub ends : ℤ → ℤ → ℤ → ℤ → ℕ → ℕ → Bool
+ends low high a b end d = between low (nearest a d) high && between low (nearest (a +ℤ b *ℤ pos end) d) high
+
+pub between-ends : (low high a b : ℤ) (end d : ℕ) → 0 < d → T (ends low high a b end d) → (r : ℕ) → r ≤ end → Between low (nearest (a +ℤ b *ℤ pos r) d) high
+between-ends low high a b end d p tested =
+    let (first, last) = and-yes (between low (nearest a d) high) (between low (nearest (a +ℤ b *ℤ pos end) d) high) tested in
+    along low high a b end d p (between-yes _ _ _ first) (between-yes _ _ _ last)
 
 -- a number that is n less d leaves what n does
 pub modulo-told : {z : ℤ} {n d : ℕ} → Is z n d → modulo z d ≡ n % d
-modulo-told {z} {n} {d} h = modulo-of z n d (h .difference)
+unfolding modulo
+modulo-told {z = pos m} {n} {d} h = rw (h .difference) (sym (add-mod-left d m))
+modulo-told {z = negsuc m} {n} {d} h =
+    rw (mod-eq-of-lt {n = m} {m = d} (omega arith), mod-eq-of-lt {n = n} {m = d} (omega arith)) (omega arith)
 
 -- floor and modulo take a number apart
 pub floor-and-modulo : (z : ℤ) (d : ℕ) → 0 < d → pos (modulo z d) +ℤ floor z d *ℤ pos d ≡ z

@@ -1,7 +1,6 @@
 pub mod Sign
 pub mod Rounding
-pub mod Difference
-pub mod Answer
+pub mod Between
 pub mod Spans
 pub mod Places
 pub mod Same

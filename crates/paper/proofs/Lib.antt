@@ -1,2 +1,2 @@
-pub mod Refusing
+pub mod Refusals
 pub mod OneAnswer

@@ -1,14 +1,28 @@
--- The refusal that a printing function answers, or 0 if it refuses nothing.
-use mathlib.Core.List.{List}
+-- What the program answers to its input, and the refusal that a printing function answers, or 0 if it refuses nothing.
+use mathlib.Core.Bool.{Bool}
+use mathlib.Core.List.{List, _++_}
 use Prim.Native.Nat.{ℕ}
-use Rattle.numbers.specs.Answer.{then, refusalIn}
-use Rattle.calendar.specs.Years.{yearOf}
-use Rattle.line.specs.Line.{lineOf}
+use Rattle.answers.specs.Answer.{Answer, refusalIn}
+use Rattle.answers.specs.Conditions.{asking}
+use Rattle.asked.specs.Asked.{rulesFor, yearConditions}
+use Rattle.calendar.specs.declared.Year.{Year}
+use Rattle.calendar.specs.Years.{yearIn, yearOf}
+use Rattle.line.specs.Line.{lineConditions, lineIn}
 
--- of a year
+-- the year that the first line asks for: the line's conditions, and then the year's
+abbrev pub answerConditions : List ℕ → List (Bool × ℕ)
+answerConditions bytes =
+    lineConditions bytes ++
+    yearConditions (lineIn bytes .calendar) (lineIn bytes .year)
+
+unfoldable pub answerOf : List ℕ → Answer Year
+answerOf bytes = asking (answerConditions bytes) (yearIn (rulesFor (lineIn bytes .calendar)) (lineIn bytes .year))
+
+-- ---- the refusal, or 0
+
+unfoldable pub answerRefusal : List ℕ → ℕ
+answerRefusal bytes = refusalIn (answerOf bytes)
+
+-- of a year that is asked for by numbers
 unfoldable pub yearRefusal : ℕ → ℕ → ℕ
 yearRefusal calendar year = refusalIn (yearOf calendar year)
-
--- of the year that the first line asks for: the line's refusal, or the year's
-unfoldable pub answerRefusal : List ℕ → ℕ
-answerRefusal bytes = refusalIn (then (lineOf bytes) (λ line. yearOf (line .calendar) (line .year)))

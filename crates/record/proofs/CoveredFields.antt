@@ -5,8 +5,7 @@ use Prim.Native.Nat.{ℕ, _+_, _<_, _≤_, _^_}
 use native.Mathlib.Omega.{arith}
 use lib.ListN.{getD}
 use lib.Pow.{pow-mono}
-use Rattle.numbers.specs.Answer.{given}
-use Rattle.numbers.proofs.Answers.{one-given}
+use Rattle.answers.specs.Answer.{given}
 use Rattle.months.specs.declared.Calendar.{Calendar}
 use Rattle.months.specs.Rules.{Rules, rulesOf, dayNumber}
 use Rattle.months.specs.Months.{firstMonth, monthCount, firstDay}
@@ -65,20 +64,19 @@ module _ (c y : ℕ) (is : isCalendar c ≡ true) (covered : isCovered (rulesFor
 
 -- .. of a year that is answered
 pub answered-small : (c y : ℕ) (x : Year) → yearOf c y ≡ given x → Small (fieldsIn c y)
-answered-small c y x e = let g = year-given c y x .only-if e in fields-small c y (g .0) (g .1 .0)
+answered-small c y x e = let g = year-given c y x .only-if e in fields-small c y (g .0 .0) (g .0 .1 .0)
 
 -- the fields of a year as its list has them
 pub fields-listed : (c y : ℕ) (x : Year) → yearOf c y ≡ given x → fieldsIn c y ≡ record { calendar = c; year = y; «first_day» = getD (x .months) 0 noMonth .«first_day»; leap = x .leap; «long_months» = longMonths (x .months) }
 unfolding fieldsIn
 fields-listed c y x e =
     let g = year-given c y x .only-if e in
-    let listed : yearIn (rulesFor c) y ≡ x = one-given _ _ (g .1 .1) in
-    let first = first-listed (numbered c) y (covered-year-told (rulesFor c) y (g .1 .0)) in
-    rw (sym listed, first)
+    let first = first-listed (numbered c) y (covered-year-told (rulesFor c) y (g .0 .1 .0)) in
+    rw (sym (g .1), first)
 
 -- .. and as the code answers them
 pub fields-told : (c y : ℕ) (x : Year) (long : ℕ) → yearOf c y ≡ given x → long ≡ longMonths (x .months) → record { refusal = 0; fields = record { calendar = c; year = y; «first_day» = getD (x .months) 0 noMonth .«first_day»; leap = x .leap; «long_months» = long } } ≡ recordAnswer (fieldsOf c y)
 fields-told c y x long e told =
     let g = year-given c y x .only-if e in
-    let known : fieldsOf c y ≡ given (fieldsIn c y) = fields-known c y (fieldsIn c y) .if (g .0, (g .1 .0, refl)) in
+    let known : fieldsOf c y ≡ given (fieldsIn c y) = fields-known c y (fieldsIn c y) .if (g .0, refl) in
     rw told (sym (ap recordAnswer (known ∙ ap given (fields-listed c y x e))))

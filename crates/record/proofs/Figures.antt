@@ -3,7 +3,8 @@ use mathlib.Core.Path.{_≡_, refl, ap, _∙_}
 use mathlib.Core.List.{List, [], _∷_, _++_}
 use Prim.Native.Nat.{ℕ}
 use lib.ListN.{replicate}
-use Rattle.numbers.specs.Answer.{Answer, given, refused}
+use Rattle.answers.specs.Answer.{Answer, given, refused}
+use Rattle.answers.specs.Conditions.{asking}
 use Rattle.months.specs.Rules.{rulesOf}
 use Rattle.calendar.proofs.Figures.{months-1522, months-643}
 use Rattle.record.specs.declared.Fields.{Fields}
@@ -40,7 +41,7 @@ record-1522 = ap (fieldBytes layout) fields-1522
 
 -- written into a buffer of 27 bytes, of which two stay as they were
 write-1522 : writeOf 1 1522 (replicate 27 255) ≡ given (printed-1522 ++ 255 ∷ 255 ∷ [])
-unfolding writeOf rulesOf
+unfolding asking writeOf rulesOf
 write-1522 = rw record-1522
 
 pub read-1522 : readOf printed-1522 ≡ given (fields 1 1522 2276996 0 3402)
@@ -56,31 +57,31 @@ fields-643 = fields-listed 2 643 _ months-643
 
 -- 6: a buffer of 24 bytes, for a calendar that is none
 write-24 : writeOf 3 9999 (replicate 24 0) ≡ refused 6
-unfolding writeOf
+unfolding asking writeOf
 write-24 = refl
 
 -- 1: .. of 25
 write-calendar-3 : writeOf 3 9999 (replicate 25 0) ≡ refused 1
-unfolding writeOf
+unfolding asking writeOf
 write-calendar-3 = refl
 
 -- 2: a year before the first
 write-821 : writeOf 1 821 (replicate 25 0) ≡ refused 2
-unfolding writeOf rulesOf
+unfolding asking writeOf rulesOf
 write-821 = refl
 
 -- 6: 24 bytes, and 26
 read-24 : readOf (replicate 24 0) ≡ refused 6
-unfolding readOf
+unfolding asking readOf
 read-24 = refl
 
 read-26 : readOf (replicate 26 0) ≡ refused 6
-unfolding readOf
+unfolding asking readOf
 read-26 = refl
 
 -- 7: no tags, and calendar 0
 read-zeros : readOf (replicate 25 0) ≡ refused 7
-unfolding readOf tagsAt numberAt
+unfolding asking readOf tagsAt numberAt
 read-zeros = refl
 
 -- the record of any fields, read
@@ -89,27 +90,27 @@ reading x = readOf (fieldBytes layout x)
 
 -- 1: calendar 3, in a year that neither has
 read-calendar-3 : reading (fields 3 9999 0 13 65535) ≡ refused 1
-unfolding readOf tagsAt numbersAt numberAt fieldBytes bytesOf
+unfolding asking readOf tagsAt numbersAt numberAt fieldBytes bytesOf
 read-calendar-3 = refl
 
 -- 2: 1522 of Genka, whose other fields are not the rule's either
 read-genka-1522 : reading (fields 2 1522 0 13 65535) ≡ refused 2
-unfolding readOf tagsAt numbersAt numberAt fieldBytes bytesOf rulesOf
+unfolding asking readOf tagsAt numbersAt numberAt fieldBytes bytesOf rulesOf
 read-genka-1522 = refl
 
 -- 8: 1522 with another first day, leap number, or long months: one more, and an unused bit
 read-other-day : reading (fields 1 1522 2276997 0 3402) ≡ refused 8
-unfolding readOf tagsAt numbersAt numberAt numbersOf sameBy fieldBytes bytesOf rulesOf
+unfolding asking readOf tagsAt numbersAt numberAt numbersOf sameBy fieldBytes bytesOf rulesOf
 read-other-day = rw fields-1522
 
 read-other-leap : reading (fields 1 1522 2276996 1 3402) ≡ refused 8
-unfolding readOf tagsAt numbersAt numberAt numbersOf sameBy fieldBytes bytesOf rulesOf
+unfolding asking readOf tagsAt numbersAt numberAt numbersOf sameBy fieldBytes bytesOf rulesOf
 read-other-leap = rw fields-1522
 
 read-other-months : reading (fields 1 1522 2276996 0 3403) ≡ refused 8
-unfolding readOf tagsAt numbersAt numberAt numbersOf sameBy fieldBytes bytesOf rulesOf
+unfolding asking readOf tagsAt numbersAt numberAt numbersOf sameBy fieldBytes bytesOf rulesOf
 read-other-months = rw fields-1522
 
 read-unused-bit : reading (fields 1 1522 2276996 0 36170) ≡ refused 8
-unfolding readOf tagsAt numbersAt numberAt numbersOf sameBy fieldBytes bytesOf rulesOf
+unfolding asking readOf tagsAt numbersAt numberAt numbersOf sameBy fieldBytes bytesOf rulesOf
 read-unused-bit = rw fields-1522

@@ -8,8 +8,8 @@ use lib.ListN.{length, getD, take, drop, set}
 use lib.Seq.{take-at, getD-set-same, getD-set-other}
 use lib.Dec.{eqb, ltb}
 use borrow.Author.Tests.{le-leb, eq-eqb, eqb-true, eqb-false, ltb-true, ltb-false}
-use Rattle.numbers.specs.Answer.{given}
-use Rattle.numbers.proofs.Answers.{Exactly, one-given}
+use Rattle.answers.specs.Answer.{given}
+use Rattle.answers.specs.Conditions.{Exactly}
 use Rattle.months.specs.Rules.{dayNumber}
 use Rattle.months.specs.Months.{firstDay}
 use Rattle.asked.specs.Asked.{isCalendar, numbered, rulesFor, isCovered}
@@ -17,20 +17,13 @@ use Rattle.asked.proofs.Covered.{covered-year-told}
 use Rattle.asked.proofs.Numbers.{no-year-of-both}
 use Rattle.calendar.proofs.FirstDays.{one-beginning}
 use Rattle.record.specs.declared.Fields.{Fields}
-use Rattle.record.specs.Tagged.{fieldBytes, numbersOf, numberAt, tagsAt, numbersAt}
-use Rattle.record.specs.Record.{layout, size, fieldsIn, writeOf, readOf}
-use Rattle.record.proofs.Numbers.{Bytes, one-number}
+use Rattle.record.specs.Tagged.{Bytes, fieldBytes, numbersOf, numberAt, tagsAt, numbersAt}
+use Rattle.record.specs.Record.{layout, size, fieldsIn, writeOf, readOf, IsRecord}
+use Rattle.record.proofs.Numbers.{one-number}
 use Rattle.record.proofs.Same.{same-one, one-same}
 use Rattle.record.proofs.YearFields.{Small, all-bytes, own-bytes, own-tags, own-numbers}
 use Rattle.record.proofs.CoveredFields.{fields-small}
 use Rattle.record.proofs.Refusals.{write-given, read-given}
-
--- bytes are the record of a covered year, with these fields
-pub record IsRecord (bytes : List ℕ) (x : Fields) : Type 0 where
-  pub calendar : isCalendar (x .calendar) ≡ true
-  pub covered : isCovered (rulesFor (x .calendar)) (x .year) ≡ true
-  pub own : fieldsIn (x .calendar) (x .year) ≡ x
-  pub written : bytes ≡ fieldBytes layout x
 
 -- ---- accepted exactly if it is the rule's own
 
@@ -65,12 +58,11 @@ module _ (bytes : List ℕ) (x : Fields) where
       let own : fieldsIn calendar year ≡ x = rw (its-calendar numbers, its-year numbers) (h .own) in
       let covered : isCovered (rulesFor calendar) year ≡ true = rw (its-calendar numbers, its-year numbers) (h .covered) in
       read-given bytes x .if
-      (eq-eqb _ _ (its-length h), (tags, (ap isCalendar (its-calendar numbers) ∙ h .calendar, (covered, (one-same _ _ (numbers ∙ ap (numbersOf layout) (sym own)), ap given own)))))
+      ((eq-eqb _ _ (its-length h), (tags, (ap isCalendar (its-calendar numbers) ∙ h .calendar, (covered, (one-same _ _ (numbers ∙ ap (numbersOf layout) (sym own)), tt))))), own)
 
   accepted-only : Bytes bytes → readOf bytes ≡ given x → IsRecord bytes x
   accepted-only are e =
-      let (length, (tags, (calendar, (covered, (agrees, gives))))) = read-given bytes x .only-if e in
-      let own = one-given _ _ gives in
+      let ((length, (tags, (calendar, (covered, (agrees, _))))), own) = read-given bytes x .only-if e in
       let numbers : numbersAt layout bytes 0 ≡ numbersOf layout x = same-one _ _ agrees ∙ ap (numbersOf layout) own in
       record {
         calendar = rw (its-calendar numbers) at calendar;
@@ -89,8 +81,8 @@ module _ (bytes : List ℕ) (x : Fields) where
 pub read-back : (c y : ℕ) (buffer left : List ℕ) → writeOf c y buffer ≡ given left → readOf (take size left) ≡ given (fieldsIn c y)
 unfolding fieldsIn
 read-back c y buffer left e =
-    let (room, (calendar, (covered, gives))) = write-given c y buffer left .only-if e in
-    let front : take size left ≡ fieldBytes layout (fieldsIn c y) = ap (take size) (sym (one-given _ _ gives)) ∙ take-at (fieldBytes layout (fieldsIn c y)) (drop size buffer) size (all-bytes (fieldsIn c y)) in
+    let ((room, (calendar, (covered, _))), gives) = write-given c y buffer left .only-if e in
+    let front : take size left ≡ fieldBytes layout (fieldsIn c y) = ap (take size) (sym gives) ∙ take-at (fieldBytes layout (fieldsIn c y)) (drop size buffer) size (all-bytes (fieldsIn c y)) in
     accepted-if (take size left) (fieldsIn c y) (record { calendar = calendar; covered = covered; own = refl; written = front })
 
 -- what is accepted is what would be written
@@ -99,7 +91,7 @@ written-again bytes x buffer are e room =
     let h = accepted-only bytes x are e in
     let own : fieldBytes layout (fieldsIn (x .calendar) (x .year)) ≡ bytes = ap (fieldBytes layout) (h .own) ∙ sym (h .written) in
     write-given (x .calendar) (x .year) buffer (bytes ++ drop size buffer) .if
-    (le-leb size (length buffer) room, (h .calendar, (h .covered, ap (λ l. given (l ++ drop size buffer)) own)))
+    ((le-leb size (length buffer) room, (h .calendar, (h .covered, tt))), ap (λ l. l ++ drop size buffer) own)
 
 -- ---- two records
 

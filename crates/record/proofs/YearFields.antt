@@ -7,9 +7,8 @@ use native.Mathlib.Nat.{mod-eq-of-lt}
 use native.Mathlib.Omega.{arith}
 use lib.ListN.{length}
 use Rattle.record.specs.declared.Fields.{Fields}
-use Rattle.record.specs.Tagged.{bytesOf, fieldBytes, numbersOf, tagsAt, numbersAt, same}
+use Rattle.record.specs.Tagged.{Bytes, bytesOf, fieldBytes, numbersOf, tagsAt, numbersAt, same}
 use Rattle.record.specs.Record.{layout, size}
-use Rattle.record.proofs.Numbers.{Bytes}
 use Rattle.record.proofs.TaggedLaws.{HeadsFit, NumbersFit, fields-there, tags-here, numbers-here}
 use Rattle.record.proofs.Same.{same-one, one-same}
 

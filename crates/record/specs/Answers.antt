@@ -1,5 +1,5 @@
 -- What each answer stands for.
-use Rattle.numbers.specs.Answer.{Answer, given, refused}
+use Rattle.answers.specs.Answer.{Answer, given, refused}
 use Rattle.record.specs.declared.Fields.{Fields}
 use Rattle.record.specs.declared.RecordAnswer.{RecordAnswer}
 

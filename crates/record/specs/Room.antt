@@ -1,9 +1,10 @@
 -- What inner functions ask of their callers, and what they find. No rule of the record.
-use mathlib.Core.List.{List}
+use mathlib.Core.List.{List, [], _∷_}
 use Prim.Native.Nat.{ℕ, _+_, _≤_}
 use lib.ListN.{length, getD}
-use Rattle.numbers.specs.Answer.{Answer, given, need, then}
-use Rattle.asked.specs.Asked.{isCalendar, rulesFor, isCovered}
+use Rattle.answers.specs.Answer.{Answer, then}
+use Rattle.answers.specs.Conditions.{asking}
+use Rattle.asked.specs.Asked.{yearConditions}
 use Rattle.record.specs.declared.Fields.{Fields}
 use Rattle.record.specs.Tagged.{numbersOf, same}
 use Rattle.record.specs.Record.{layout, fieldsIn}
@@ -19,8 +20,8 @@ pub record NumberThere (bytes : List ℕ) (place count : ℕ) : Type 0 where
 
 -- the fields of a year, or the refusal
 unfoldable pub fieldsOf : ℕ → ℕ → Answer Fields
-fieldsOf c y = need (isCalendar c) 1 (need (isCovered (rulesFor c) y) 2 (given (fieldsIn c y)))
+fieldsOf c y = asking (yearConditions c y) (fieldsIn c y)
 
 -- the fields with these numbers, if they are the rule's own for their calendar and year
 unfoldable pub acceptedOf : List ℕ → Answer Fields
-acceptedOf numbers = then (fieldsOf (getD numbers 0 0) (getD numbers 1 0)) (λ x. need (same numbers (numbersOf layout x)) 8 (given x))
+acceptedOf numbers = then (fieldsOf (getD numbers 0 0) (getD numbers 1 0)) (λ x. asking ((same numbers (numbersOf layout x), 8) ∷ []) x)

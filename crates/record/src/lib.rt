@@ -1,7 +1,7 @@
 ghost use mathlib.Core.Path.{_≡_};
 ghost use Prim.Native.Nat.{_+_, _*_, _<_};
 ghost use lib.ListN.{length};
-ghost use Rattle.numbers.specs.Answer.{refused, refusalIn, leftIn};
+ghost use Rattle.answers.specs.Answer.{refused, refusalIn, leftIn};
 ghost use Rattle.record.specs.Tagged.{fieldBytes, numbersOf, numberAt, numbersAt, same};
 ghost use Rattle.record.specs.Record.{layout, longBit, longMonths, writeOf, readOf};
 ghost use Rattle.record.specs.Answers.{recordAnswer};

@@ -1,124 +1,104 @@
 -- A run loses its first year: the months behind it move up to the front.
-use mathlib.Core.Path.{_≡_, refl, sym, ap, _∙_}
+use mathlib.Core.Path.{_≡_, refl, sym, _∙_}
 use mathlib.Core.Bool.{Bool, true, false}
 use mathlib.Core.List.{List}
-use Prim.Native.Nat.{ℕ, _+_, _-_, _/_, _%_, _<_, _≤_}
+use Prim.Native.Nat.{ℕ, _+_, _-_, _/_, _%_, _<_}
 use native.Mathlib.Omega.{arith}
 use lib.Dec.{ltb}
 use lib.ListN.{getD, set}
 use borrow.Author.Tests.{ltb-true, ltb-false}
-use Rattle.numbers.specs.Places.{places}
-use Rattle.numbers.specs.Spans.{Holds}
-use Rattle.numbers.proofs.Places.{put-down}
-use Rattle.months.specs.declared.Calendar.{Calendar}
-use Rattle.months.specs.Rules.{Rules}
 use Rattle.months.specs.Months.{firstMonth, monthCount}
 use Rattle.months.specs.Room.{Covering}
+use Rattle.months.specs.Year.{OfYear}
 use Rattle.months.proofs.Calendars.{steady}
 use Rattle.months.proofs.FirstMonths.{years-in-order, year-holds, year-is}
-use Rattle.asked.specs.Asked.{numbered, rulesFor}
 use Rattle.asked.specs.Room.{CoveredYear}
 use Rattle.asked.proofs.Covered.{covered-year-tested}
 use Rattle.asked.proofs.Numbers.{year-small}
 use Rattle.calendar.proofs.Covered.{YearRoom, year-room}
 use Rattle.kept.specs.declared.Run.{Run}
-use Rattle.kept.specs.Runs.{heldFirst, heldLast, runOf}
+use Rattle.kept.specs.Room.{Kept}
+use Rattle.kept.specs.Runs.{runOf}
+use Rattle.kept.proofs.Content.{itsCalendar, itsRules, itsFirst, Rows, one-month-more, run-told, own-count, own-day, own-date, own-covering, count-fits}
+use Rattle.held.proofs.Places.{told}
 use Rattle.run.specs.Room.{Droppable}
-use Rattle.kept.proofs.Content.{run-told, own-count, own-day, own-date, own-covering, count-fits}
-use Rattle.held.proofs.Lookups.{year-found}
 
--- a run's first year is covered
-pub oldest-covered : (run : Run) → Droppable run → CoveredYear (rulesFor (run .calendar)) (run .«first_year»)
-oldest-covered run h = record { from = h .kept .room .from; to = omega (arith, h .kept .room .to, h .more) }
+-- month 1 of a run's second year
+abbrev pub second : Run → ℕ
+second run = firstMonth (itsRules run) (run .«first_year» + 1)
 
--- ---- how many months it has
+module _ {run : Run} (kept : Kept run) (more : 1 < run .years) where
+  -- its first two years are covered
+  covered : (y : ℕ) → y < 2 → CoveredYear (itsRules run) (run .«first_year» + y)
+  covered y h = record { from = omega (arith, kept .room .from); to = omega (arith, kept .room .to, more, h) }
 
-module _ (run : Run) (h : Droppable run) where
-  abbrev its-rules : Rules
-  its-rules = rulesFor (run .calendar)
+  oldest-room : YearRoom (itsRules run) (run .«first_year»)
+  oldest-room = let here : run .«first_year» + 0 ≡ run .«first_year» = omega arith in rw here at (year-room (itsCalendar run) (run .«first_year» + 0) (covered 0 (omega arith)))
 
-  abbrev its-calendar : Calendar
-  its-calendar = numbered (run .calendar)
-
-  abbrev its-first : ℕ
-  its-first = firstMonth its-rules (run .«first_year»)
-
-  oldest-room : YearRoom its-rules (run .«first_year»)
-  oldest-room = year-room its-calendar (run .«first_year») (oldest-covered run h)
+  pub droppable : Droppable run
+  droppable =
+      let later = years-in-order _ (steady (itsCalendar run)) (run .«first_year» + 1) (run .«first_year» + run .years) (omega (arith, more)) in
+      let small = year-small (run .calendar) (run .«first_year» + 1) (covered-year-tested (itsRules run) (run .«first_year» + 1) (covered 1 (omega arith))) in
+      record {
+        kept = kept;
+        more = more;
+        year-small = omega (arith, small);
+        oldest-held = omega (arith, oldest-room .at-least, later, own-count (kept .own));
+        fits = count-fits kept;
+      }
 
   -- a thirteenth place is used
   thirteen-held : 12 < run .count
   thirteen-held =
-      let second = year-room its-calendar (run .«first_year» + 1) (record { from = omega (arith, h .kept .room .from); to = omega (arith, h .kept .room .to, h .more) }) in
-      let later = years-in-order its-rules (steady its-calendar) (run .«first_year» + 1 + 1) (run .«first_year» + run .years) (omega (arith, h .more)) in
-      omega (arith, oldest-room .at-least, second .at-least, later, own-count run (h .kept .own))
+      let next = year-room (itsCalendar run) (run .«first_year» + 1) (covered 1 (omega arith)) in
+      let later = years-in-order _ (steady (itsCalendar run)) (run .«first_year» + 1 + 1) (run .«first_year» + run .years) (omega (arith, more)) in
+      omega (arith, oldest-room .at-least, next .at-least, later, own-count (kept .own))
 
-  thirteenth-covers : Covering its-rules (its-first + 12)
-  thirteenth-covers = own-covering run (h .kept .own) (h .kept .room) 12 thirteen-held
+-- ---- how many months its first year has
+
+module _ {run : Run} (h : Droppable run) where
+  inside : 12 < run .count
+  inside = thirteen-held (h .kept) (h .more)
+
+  covers : Covering (itsRules run) (itsFirst run + 12)
+  covers = own-covering (h .kept) 12 inside
 
   abbrev yearAt12 : ℕ
   yearAt12 = getD (run .«last_dates») 12 0 % 100000000 / 10000
 
-  pub thirteen-told : yearAt12 ≡ run .«first_year» → 13 ≡ monthCount its-rules (run .«first_year»)
+  pub thirteen-told : yearAt12 ≡ run .«first_year» → 13 ≡ monthCount (itsRules run) (run .«first_year»)
   thirteen-told e =
-      let held = year-holds its-rules (steady its-calendar) (its-first + 12) thirteenth-covers in
-      let own = sym (year-found run (h .kept) 12 thirteen-held) ∙ e in
-      omega (arith, rw own at (held .to), oldest-room .at-most)
+      let held = year-holds _ (steady (itsCalendar run)) (itsFirst run + 12) covers in
+      let own = sym (told (h .kept) 12 inside .year) ∙ e in
+      omega (arith, rw own at (held .to), oldest-room (h .kept) (h .more) .at-most)
 
-  pub twelve-told : (yearAt12 ≡ run .«first_year» → ⊥) → 12 ≡ monthCount its-rules (run .«first_year»)
-  twelve-told other = by-order (ltb (its-first + 12) (firstMonth its-rules (run .«first_year» + 1))) refl
+  pub twelve-told : (yearAt12 ≡ run .«first_year» → ⊥) → 12 ≡ monthCount (itsRules run) (run .«first_year»)
+  twelve-told other = by-order (ltb (itsFirst run + 12) (second run)) refl
     where
-      by-order : (b : Bool) → ltb (its-first + 12) (firstMonth its-rules (run .«first_year» + 1)) ≡ b → 12 ≡ monthCount its-rules (run .«first_year»)
+      by-order : (b : Bool) → ltb (itsFirst run + 12) (second run) ≡ b → 12 ≡ monthCount (itsRules run) (run .«first_year»)
       by-order true e =
-          let inside : Holds (firstMonth its-rules) (run .«first_year») (its-first + 12) = record { from = omega arith; to = ltb-true (its-first + 12) (firstMonth its-rules (run .«first_year» + 1)) e } in
-          absurd (other (year-found run (h .kept) 12 thirteen-held ∙ year-is its-rules (steady its-calendar) (its-first + 12) thirteenth-covers (run .«first_year») inside))
+          let of-first : OfYear (itsRules run) (run .«first_year») (itsFirst run + 12) = record { from = omega arith; to = ltb-true _ _ e } in
+          absurd (other (told (h .kept) 12 inside .year ∙ year-is _ (steady (itsCalendar run)) (itsFirst run + 12) covers (run .«first_year») of-first))
       by-order false e =
-          omega (arith, ltb-false (its-first + 12) (firstMonth its-rules (run .«first_year» + 1)) e, oldest-room .at-least)
+          omega (arith, ltb-false (itsFirst run + 12) (second run) e, oldest-room (h .kept) (h .more) .at-least)
 
--- ---- its months, so many, and those that are left
+-- ---- they go, so many, and the others move up
 
-pub record DropRoom (run : Run) (oldest : ℕ) : Type 0 where
-  pub count : firstMonth (rulesFor (run .calendar)) (run .«first_year») + oldest ≡ firstMonth (rulesFor (run .calendar)) (run .«first_year» + 1)
-  pub some-left : oldest ≤ run .count
-  pub fits : run .count ≤ 174
-  pub year-small : run .«first_year» ≤ 1684
+module _ {run : Run} (h : Droppable run) {oldest : ℕ} (is-oldest : oldest ≡ monthCount (itsRules run) (run .«first_year»)) where
+  count : itsFirst run + oldest ≡ second run
+  count = omega (arith, is-oldest, oldest-room (h .kept) (h .more) .at-least)
 
-module _ (run : Run) (oldest : ℕ) (h : Droppable run) (is-oldest : oldest ≡ monthCount (rulesFor (run .calendar)) (run .«first_year»)) where
-  abbrev rules : Rules
-  rules = rulesFor (run .calendar)
-
-  abbrev second : ℕ
-  second = firstMonth rules (run .«first_year» + 1)
-
-  pub drop-room : DropRoom run oldest
-  drop-room =
-      let covered = oldest-covered run h in
-      let later = years-in-order rules (steady (numbered (run .calendar))) (run .«first_year» + 1) (run .«first_year» + run .years) (omega (arith, h .more)) in
-      let count : firstMonth rules (run .«first_year») + oldest ≡ second = omega (arith, is-oldest, oldest-room run h .at-least) in
-      record {
-        count = count;
-        some-left = omega (arith, count, later, own-count run (h .kept .own));
-        fits = count-fits run (h .kept .own) (h .kept .room);
-        year-small = year-small (run .calendar) (run .«first_year») (covered-year-tested rules (run .«first_year») covered);
-      }
-
-  -- a number of one more month moves up
-  module _ (place : ℕ) (left : place < run .count - oldest) where
-    here : firstMonth rules (run .«first_year») + (place + oldest) ≡ second + place
-    here = omega (arith, drop-room .count)
-
-    one-moved : (held : ℕ → ℕ) (l : List ℕ) (n : ℕ) → n ≡ held (firstMonth rules (run .«first_year») + (place + oldest)) → l ≡ places 0 held second place 174 → set l place n ≡ places 0 held second (place + 1) 174
-    one-moved held l n e f = put-down 0 held second place 174 l n (omega (arith, left, drop-room .fits)) f (e ∙ ap held here)
-
-    pub day-moved : (l : List ℕ) → l ≡ places 0 (heldFirst rules) second place 174 → set l place (getD (run .«first_days») (place + oldest) 0) ≡ places 0 (heldFirst rules) second (place + 1) 174
-    day-moved l e = one-moved (heldFirst rules) l _ (own-day run (h .kept .own) (h .kept .room) (place + oldest) (omega (arith, left))) e
-
-    pub date-moved : (l : List ℕ) → l ≡ places 0 (heldLast rules) second place 174 → set l place (getD (run .«last_dates») (place + oldest) 0) ≡ places 0 (heldLast rules) second (place + 1) 174
-    date-moved l e = one-moved (heldLast rules) l _ (own-date run (h .kept .own) (h .kept .room) (place + oldest) (omega (arith, left))) e
+  -- one more month moves up
+  pub month-moved : (place : ℕ) → place < run .count - oldest → {days dates : List ℕ} → Rows (itsRules run) (second run) place days dates
+      → Rows (itsRules run) (second run) (place + 1) (set days place (getD (run .«first_days») (place + oldest) 0)) (set dates place (getD (run .«last_dates») (place + oldest) 0))
+  month-moved place left rows =
+      let here : itsFirst run + (place + oldest) ≡ second run + place = omega (arith, count) in
+      let among : place + oldest < run .count = omega (arith, left) in
+      one-month-more rows (omega (arith, left, h .fits)) (rw (← here) (own-day (h .kept) (place + oldest) among)) (rw (← here) (own-date (h .kept) (place + oldest) among))
 
   -- all of them together make the run that is shorter by the year
-  pub oldest-dropped : (days dates : List ℕ) → days ≡ places 0 (heldFirst rules) second (run .count - oldest) 174 → dates ≡ places 0 (heldLast rules) second (run .count - oldest) 174
+  pub oldest-dropped : {days dates : List ℕ} → Rows (itsRules run) (second run) (run .count - oldest) days dates
       → record { calendar = run .calendar; «first_year» = run .«first_year» + 1; years = run .years - 1; count = run .count - oldest; «first_days» = days; «last_dates» = dates } ≡ runOf (run .calendar) (run .«first_year» + 1) (run .years - 1)
-  oldest-dropped days dates e f =
+  oldest-dropped =
       let on : run .«first_year» + 1 + (run .years - 1) ≡ run .«first_year» + run .years = omega (arith, h .more) in
-      run-told (run .calendar) (run .«first_year» + 1) (run .years - 1) (run .count - oldest) days dates (rw on (omega (arith, own-count run (h .kept .own), drop-room .count, drop-room .some-left))) e f
+      run-told (run .calendar) (run .«first_year» + 1) (run .years - 1) (run .count - oldest) (rw on (omega (arith, own-count (h .kept .own), count, is-oldest, h .oldest-held)))

@@ -1,5 +1,5 @@
 -- What the answer of a call that gives back a run is.
-use Rattle.numbers.specs.Answer.{Answer, given, refused}
+use Rattle.answers.specs.Answer.{Answer, given, refused}
 use Rattle.kept.specs.declared.Run.{Run}
 use Rattle.run.specs.declared.RunAnswer.{RunAnswer}
 

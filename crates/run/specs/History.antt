@@ -4,7 +4,7 @@ use mathlib.Core.Bool.{Bool, true, false, _&&_}
 use mathlib.Core.List.{List, [], _∷_}
 use Prim.Native.Nat.{ℕ, _+_, _-_, _<_, _≤_}
 use lib.Dec.{ltb}
-use Rattle.numbers.specs.Answer.{given}
+use Rattle.answers.specs.Answer.{given}
 use Rattle.months.specs.Rules.{Rules}
 use Rattle.asked.specs.Asked.{rulesFor, isCovered}
 use Rattle.calendar.specs.declared.Date.{Date}

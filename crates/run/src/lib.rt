@@ -116,8 +116,7 @@ pub fn drop_oldest(run: Run) -> RunAnswer
 pub fn run_date_of(run: Run, day: u64) -> DateAnswer
     ensures { λ r. ⌜ dateMeans r ≡ runDateOf run day ⌝ }
 {
-    let examined = kept::is_run(run);
-    if !examined {
+    if !kept::is_run(run) {
         return DateAnswer::Refused(11);
     }
     held::date_in_run(run, day)
@@ -127,8 +126,8 @@ pub fn run_date_of(run: Run, day: u64) -> DateAnswer
 pub fn run_day_of(run: Run, year: u64, month: u64, leap: bool, day: u64) -> DayAnswer
     ensures { λ r. ⌜ dayMeans r ≡ runDayOf run year month leap day ⌝ }
 {
-    if !kept::is_run(run) {
-        return DayAnswer::Refused(11);
+    if kept::is_run(run) {
+        return held::day_in_run(run, year, month, leap, day);
     }
-    held::day_in_run(run, year, month, leap, day)
+    DayAnswer::Refused(11)
 }

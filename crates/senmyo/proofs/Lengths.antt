@@ -4,17 +4,14 @@ use mathlib.Core.Bool.{Bool, _&&_}
 use Prim.Native.Nat.{ℕ, _+_, _-_, _*_, _<_, _≤_}
 use native.Mathlib.Omega.{arith}
 use lib.Dec.{T, leb, leb→le, ltb→lt}
-use lib.IntN.{pos, _+ℤ_, _*ℤ_}
 use mir.Facts.{and-yes}
-use Rattle.numbers.specs.Difference.{Is}
 use Rattle.numbers.specs.Spans.{Takes}
-use Rattle.numbers.proofs.Difference.{is-pos, is-neg, is-add, is-mul, is-parts, is-one}
-use Rattle.numbers.proofs.Order.{le-is}
+use Rattle.numbers.proofs.Order.{≤ℤ-mul, moved-between}
 use Rattle.numbers.proofs.Spans.{Growing}
 use Rattle.numbers.proofs.Tests.{everyTwo, at-each-two}
-use Rattle.units.specs.Units.{fenToByo, wholeDays}
-use Rattle.means.specs.Means.{meanNewMoon, meanFullMoon, midTermDay, rainWater}
-use Rattle.senmyo.specs.Phases.{corrections, newMoon, newMoonDay, fullMoon, fullMoonFen}
+use Rattle.units.specs.Units.{wholeDays}
+use Rattle.means.specs.Means.{meanFullMoon, midTermDay, rainWater}
+use Rattle.senmyo.specs.Phases.{newMoon, newMoonDay, fullMoonFen}
 use Rattle.senmyo.specs.Room.{latestMonth, sureMonth}
 use Rattle.senmyo.proofs.Worked.{dayAt}
 use Rattle.senmyo.proofs.PhaseLaws.{corrections-between, new-moon-exact, full-moon-exact, advance-is-floor}
@@ -54,23 +51,11 @@ tested-to = ltb→lt _ _ tt
 -- ---- of every month, by the bounds of the corrections
 
 -- where new moon k lies, beside its mean
-record NearMoment (k : ℕ) : Type 0 where
-  not-late : newMoon k .0 ≤ 248057 * k + 4751
-  not-early : 248057 * k ≤ newMoon k .0 + 4721
-
-near-moment : (k : ℕ) → NearMoment k
-near-moment k =
-    let mean = fenToByo (meanNewMoon k) in
-    let both = is-parts (corrections mean) in
-    let told : Is (pos (248057 * k) +ℤ corrections mean) (newMoon k .0) 0 = rw (new-moon-exact k) at (is-pos (newMoon k .0)) in
-    let sum = is-one told (is-add (is-pos (248057 * k)) both) in
-    record {
-      not-late = omega (arith, sum, le-is both (is-pos 4751) (corrections-between mean .to));
-      not-early = omega (arith, sum, le-is (is-neg (is-pos 4721)) both (corrections-between mean .from));
-    }
+beside-mean : (k : ℕ) → (newMoon k .0 ≤ 248057 * k + 4751) × (248057 * k ≤ newMoon k .0 + 4721)
+beside-mean k = moved-between _ _ 4721 4751 (new-moon-exact k) (corrections-between _)
 
 pub new-moon-small : (k : ℕ) → newMoon k .0 ≤ 248057 * k + 4751
-new-moon-small k = near-moment k .not-late
+new-moon-small k = beside-mean k .0
 
 -- .. and its day
 pub record NearMean (k : ℕ) : Type 0 where
@@ -79,7 +64,7 @@ pub record NearMean (k : ℕ) : Type 0 where
 
 pub near-mean : (k : ℕ) → NearMean k
 near-mean k =
-    let near = near-moment k in
+    let near = beside-mean k in
     let day = advance-is-floor (newMoon k) in
     record { not-late = omega (arith, near, day); not-early = omega (arith, near, day) }
 
@@ -108,10 +93,6 @@ pub record InMidst (k : ℕ) : Type 0 where
 
 pub full-moon-day : (k : ℕ) → InMidst k
 full-moon-day k =
-    let mean = meanFullMoon k in
-    let both = is-parts (corrections mean) in
-    let told : Is (pos (mean .0) +ℤ corrections mean *ℤ pos 8) (fullMoon k .0) 0 = rw (full-moon-exact k) at (is-pos (fullMoon k .0)) in
-    let sum = is-one told (is-add (is-pos (mean .0)) (is-mul 8 both)) in
-    let low = le-is (is-neg (is-pos 4721)) both (corrections-between mean .from) in
-    let high = le-is both (is-pos 4751) (corrections-between mean .to) in
-    record { from = omega (arith, sum, low, near-mean k); to = omega (arith, sum, high, near-mean k) }
+    let both = corrections-between (meanFullMoon k) in
+    let moment = moved-between _ _ 37768 38008 (full-moon-exact k) (record { from = ≤ℤ-mul 8 (both .from); to = ≤ℤ-mul 8 (both .to) }) in
+    record { from = omega (arith, near-mean k); to = omega (arith, near-mean k) }

@@ -5,12 +5,12 @@ use Prim.Native.Nat.{ℕ, _+_, _*_, _/_, _<_, _≤_}
 use native.Mathlib.Omega.{arith}
 use borrow.Author.Tests.{ltb-true, ltb-false, leb-true, leb-false, le-leb, lt-leb}
 use lib.Dec.{ltb, leb}
-use lib.IntN.{ℤ, pos, negsuc, _+ℤ_, _*ℤ_}
+use lib.IntN.{ℤ, pos, negsuc, _+ℤ_}
 use lib.Signed.{_≤ℤ_}
 use Rattle.numbers.specs.Sign.{minus, whole}
-use Rattle.numbers.proofs.Difference.{is-pos, is-neg, is-add, is-mul, is-parts}
-use Rattle.numbers.proofs.Order.{is-le, le-is}
-use Rattle.numbers.proofs.Rounding.{Between}
+use Rattle.numbers.specs.Between.{Between}
+use Rattle.numbers.proofs.Difference.{is-pos, is-add, is-mul, is-parts}
+use Rattle.numbers.proofs.Order.{is-le, le-is, pos-le, ≤ℤ-add, ≤ℤ-mul}
 use Rattle.numbers.proofs.Size.{Small, small-between}
 use Rattle.units.specs.declared.Byo.{Byo}
 use Rattle.units.specs.declared.Fen.{Fen}
@@ -19,28 +19,38 @@ use Rattle.units.specs.Units.{fen, fenToByo, byoToAnomalySeconds, wholeDays, fe
 use Rattle.means.specs.Means.{meanNewMoon, meanFullMoon}
 use Rattle.sun.specs.Sun.{sunOf}
 use Rattle.moon.specs.Moon.{moonOf}
-use Rattle.senmyo.specs.Phases.{corrections, newMoon, advancedDay, fullMoon}
+use Rattle.senmyo.specs.Phases.{corrections, correctionToByo, newMoon, advancedDay, fullMoon}
 use Rattle.sun.proofs.Bounds.{sun-bounds, sun-first-day}
 use Rattle.moon.proofs.Rows.{moon-bounds, moon-first-day}
 
--- a moment from which the corrections take no more than it has
-far-enough : (m : Byo) (s n : ℕ) → (s + n) * 8 ≤ m .0 → minus s ≤ℤ sunOf m → minus n ≤ℤ moonOf (byoToAnomalySeconds m) → pos 0 ≤ℤ (pos (m .0) +ℤ corrections m *ℤ pos 8)
-unfolding corrections
-far-enough m s n h sun moon =
-    let by-sun = is-parts (sunOf m) in
-    let by-moon = is-parts (moonOf (byoToAnomalySeconds m)) in
-    is-le (is-pos 0) (is-add (is-pos (m .0)) (is-mul 8 (is-add by-sun by-moon)))
-    (omega (arith, le-is (is-neg (is-pos s)) by-sun sun, le-is (is-neg (is-pos n)) by-moon moon))
+pub sun-small : (m : Byo) → Small (sunOf m) (1526 + 1526)
+sun-small m = small-between 1526 1526 (sun-bounds m)
 
-pub after-start : (m : Byo) → pos 0 ≤ℤ (pos (m .0) +ℤ corrections m *ℤ pos 8)
+pub moon-small : (a : AnomalySecond) → Small (moonOf a) (3195 + 3225)
+moon-small a = small-between 3195 3225 (moon-bounds a)
+
+-- both together lie between the sums of their bounds
+pub corrections-between : (m : Byo) → Between (minus 4721) (corrections m) (pos 4751)
+unfolding corrections
+corrections-between m =
+    let sun = sun-bounds m in
+    let moon = moon-bounds (byoToAnomalySeconds m) in
+    record { from = ≤ℤ-add (sun .from) (moon .from); to = ≤ℤ-add (sun .to) (moon .to) }
+
+pub corrections-small : (m : Byo) → Small (corrections m) (4721 + 4751)
+corrections-small m = small-between 4721 4751 (corrections-between m)
+
+-- on the first day of the count they are not below zero, and later they take no more than there is
+pub after-start : (m : Byo) → pos 0 ≤ℤ (pos (m .0) +ℤ correctionToByo (corrections m))
+unfolding corrections
 after-start m = by-day (ltb (m .0) dayByo) refl
   where
-    by-day : (b : Bool) → ltb (m .0) dayByo ≡ b → pos 0 ≤ℤ (pos (m .0) +ℤ corrections m *ℤ pos 8)
+    by-day : (b : Bool) → ltb (m .0) dayByo ≡ b → pos 0 ≤ℤ (pos (m .0) +ℤ correctionToByo (corrections m))
     by-day true e =
         let early = ltb-true (m .0) dayByo e in
-        far-enough m 0 0 (omega arith) (sun-first-day m early) (moon-first-day _ (omega arith))
+        ≤ℤ-add (pos-le {m = 0} (omega arith)) (≤ℤ-mul 8 (≤ℤ-add (sun-first-day m early) (moon-first-day _ (omega arith))))
     by-day false e =
-        far-enough m 1526 3195 (omega (arith, ltb-false (m .0) dayByo e)) (sun-bounds m .from) (moon-bounds _ .from)
+        ≤ℤ-add (pos-le {m = 4721 * 8} (omega (arith, ltb-false (m .0) dayByo e))) (≤ℤ-mul 8 (corrections-between m .from))
 
 -- .. and in fen, from a mean new moon, which is of whole fen
 pub new-moon-after-start : (k : ℕ) → pos 0 ≤ℤ (pos (meanNewMoon k .0) +ℤ corrections (fenToByo (meanNewMoon k)))
@@ -49,31 +59,6 @@ new-moon-after-start k =
     let room = le-is (is-pos 0) (is-add (is-pos (248057 * k * 8)) (is-mul 8 both)) (after-start (fenToByo (meanNewMoon k))) in
     is-le (is-pos 0) (is-add (is-pos (248057 * k)) both) (omega (arith, room))
 
-pub sun-small : (m : Byo) → Small (sunOf m) (1526 + 1526)
-sun-small m = small-between 1526 1526 (sun-bounds m .from) (sun-bounds m .to)
-
-pub moon-small : (a : AnomalySecond) → Small (moonOf a) (3195 + 3225)
-moon-small a = small-between 3195 3225 (moon-bounds a .from) (moon-bounds a .to)
-
--- both together lie between the sums of their bounds
-pub corrections-between : (m : Byo) → Between (minus 4721) (corrections m) (pos 4751)
-unfolding corrections
-corrections-between m =
-    let a = byoToAnomalySeconds m in
-    let sun = is-parts (sunOf m) in
-    let moon = is-parts (moonOf a) in
-    record {
-      from =
-          is-le (is-neg (is-pos 4721)) (is-add sun moon)
-          (omega (arith, le-is (is-neg (is-pos 1526)) sun (sun-bounds m .from), le-is (is-neg (is-pos 3195)) moon (moon-bounds a .from)));
-      to =
-          is-le (is-add sun moon) (is-pos 4751)
-          (omega (arith, le-is sun (is-pos 1526) (sun-bounds m .to), le-is moon (is-pos 3225) (moon-bounds a .to)));
-    }
-
-pub corrections-small : (m : Byo) → Small (corrections m) (4721 + 4751)
-corrections-small m = small-between 4721 4751 (corrections-between m .from) (corrections-between m .to)
-
 -- ---- moments told by naturals
 
 whole-exact : (z : ℤ) → pos 0 ≤ℤ z → pos (whole z) ≡ z
@@ -81,7 +66,7 @@ whole-exact (pos n) h = refl
 whole-exact (negsuc n) h = absurd (h .le)
 
 -- nothing is cut off where the definitions go from a signed number to a natural
-pub full-moon-exact : (k : ℕ) → pos (fullMoon k .0) ≡ pos (meanFullMoon k .0) +ℤ corrections (meanFullMoon k) *ℤ pos 8
+pub full-moon-exact : (k : ℕ) → pos (fullMoon k .0) ≡ pos (meanFullMoon k .0) +ℤ correctionToByo (corrections (meanFullMoon k))
 unfolding fullMoon
 full-moon-exact k = whole-exact _ (after-start (meanFullMoon k))
 

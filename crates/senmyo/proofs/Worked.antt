@@ -4,7 +4,7 @@ use lib.IntN.{ℤ}
 use Rattle.numbers.specs.Rounding.{nearest}
 use Rattle.units.specs.Units.{fenToByo, byoToAnomalySeconds}
 use Rattle.sun.specs.Sun.{solsticeRow, laterRows, placeIn, sunPlace, afterDays, onDay, sunShare, sunOf}
-use Rattle.moon.specs.Moon.{upperRows, lowerRows, shareOf, inHalf, halfOf, moonOf}
+use Rattle.moon.specs.Moon.{upperRows, lowerRows, shareOf, inRow, halfOf, moonOf}
 use Rattle.means.specs.Means.{meanNewMoon}
 use Rattle.senmyo.specs.Phases.{corrections, newMoon, advancedDay, newMoonDay}
 
@@ -14,7 +14,7 @@ unfolding sunOf sunShare afterDays onDay sunPlace placeIn solsticeRow laterRows 
 sunAt k = sunOf (fenToByo (meanNewMoon k))
 
 unfoldable pub moonAt : ℕ → ℤ
-unfolding moonOf halfOf inHalf shareOf upperRows lowerRows nearest
+unfolding moonOf halfOf inRow shareOf upperRows lowerRows nearest
 moonAt k = moonOf (byoToAnomalySeconds (fenToByo (meanNewMoon k)))
 
 -- the day of true new moon k

@@ -27,9 +27,13 @@ advancedDay moment = elim (leb 6300 (fenOfDay moment .0)) [ true ↦ wholeDays m
 abbrev pub newMoonDay : ℕ → ℕ
 newMoonDay k = advancedDay (newMoon k)
 
+-- a correction in byo, of which a fen has 8
+abbrev pub correctionToByo : ℤ → ℤ
+correctionToByo fen = fen *ℤ pos 8
+
 -- the full moon after new moon k: mean, with both corrections taken there, exact
 unfoldable pub fullMoon : ℕ → Byo
-fullMoon k = byo (whole (pos (meanFullMoon k .0) +ℤ corrections (meanFullMoon k) *ℤ pos 8))
+fullMoon k = byo (whole (pos (meanFullMoon k .0) +ℤ correctionToByo (corrections (meanFullMoon k))))
 
 -- .. and with half a fen dropped at the end
 abbrev pub fullMoonFen : ℕ → Fen

@@ -14,9 +14,9 @@ use units::Byo;
 use units::FEN_IN_DAY;
 use units::Fen;
 ghost use mathlib.Core.Path.{_≡_};
-ghost use Prim.Native.Nat.{_<_, _^_};
-ghost use lib.IntN.{pos, _+ℤ_};
-ghost use Rattle.senmyo.specs.Phases.{corrections, newMoon, advancedDay, newMoonDay, fullMoon, fullMoonFen};
+ghost use Prim.Native.Nat.{_<_, _≤_, _^_};
+ghost use lib.IntN.{pos, natAbs, _+ℤ_};
+ghost use Rattle.senmyo.specs.Phases.{corrections, correctionToByo, newMoon, advancedDay, newMoonDay, fullMoon, fullMoonFen};
 ghost use Rattle.senmyo.specs.FullMoons.{nodePlaceAt, nodeAt};
 ghost use Rattle.senmyo.specs.Room.{latestMonth, sureMonth, Movable};
 
@@ -35,6 +35,13 @@ fn correction(mean: Byo) -> i64
 {
     let sun = sun_of(mean);
     sun + moon_of(units::byo_to_anomaly_seconds(mean))
+}
+
+fn correction_to_byo(fen: i64) -> i64
+    requires { ⌜ natAbs fen ≤ 10000 ⌝ }
+    ensures { λ r. ⌜ r ≡ correctionToByo fen ⌝ }
+{
+    fen * (BYO_IN_FEN as i64)
 }
 
 // A count, and a signed one of the same unit that moves it.
@@ -72,14 +79,14 @@ pub fn new_moon_day(number: u32) -> u64
 pub fn latest_month(day: u32) -> u32
     ensures { λ r. ⌜ r ≡ latestMonth day ⌝ }
 {
-    ((FEN_IN_DAY * (day as u64) + ADVANCE + MOST_EARLY - 1) / MONTH) as u32
+    ((FEN_IN_DAY * (day as u64) + ADVANCE + MOST_EARLY - 1) / MONTH.0) as u32
 }
 
 // The last new moon that is sure to: it falls before the day's advance even if it is as late as can be.
 pub fn sure_month(day: u32) -> u32
     ensures { λ r. ⌜ r ≡ sureMonth day ⌝ }
 {
-    ((FEN_IN_DAY * (day as u64) + ADVANCE - MOST_LATE - 1) / MONTH) as u32
+    ((FEN_IN_DAY * (day as u64) + ADVANCE - MOST_LATE - 1) / MONTH.0) as u32
 }
 
 // The full moon after new moon `number`, exactly.
@@ -87,7 +94,7 @@ pub fn full_moon(number: u32) -> Byo
     ensures { λ r. ⌜ r ≡ fullMoon number ⌝ }
 {
     let mean = mean_full_moon(number);
-    Byo(moved(mean.0, correction(mean) * (BYO_IN_FEN as i64)))
+    Byo(moved(mean.0, correction_to_byo(correction(mean))))
 }
 
 // The same in whole fen.

@@ -1,19 +1,22 @@
 -- The exported calls' definitions at 01's worked figures, and the order of their refusals.
-use mathlib.Core.Path.{_≡_, refl, ap}
+use mathlib.Core.Path.{_≡_, refl, ap, _∙_}
 use mathlib.Core.Bool.{true}
-use mathlib.Core.List.{[], _∷_}
+use mathlib.Core.List.{[], _∷_, _++_}
 use Prim.Native.Nat.{_-_, _^_}
+use native.Mathlib.Omega.{arith}
 use lib.ListN.{replicate}
-use Rattle.numbers.specs.Answer.{given, refused, then}
-use Rattle.moons.specs.Eclipses.{eclipseOf}
+use Rattle.answers.specs.Answer.{given, refused, then}
+use Rattle.answers.specs.Conditions.{asking}
 use Rattle.moons.proofs.Figures.{eclipse-1522}
 use Rattle.calendar.proofs.OneDate.{date-of-day-of}
 use Rattle.calendar.proofs.Figures.{months-1522, day-643, leap-643}
 use Rattle.record.specs.Tagged.{numbersOf}
+use Rattle.record.specs.Record.{layout}
 use Rattle.record.proofs.Figures.{printed-1522, read-1522}
 use Rattle.kept.specs.Runs.{dateNumber}
-use Rattle.sieveflicker.specs.Numbers.{numberIn, placesNumbers}
-use Rattle.sieveflicker.specs.Exported.{written, dayNumberOf, dateNumberOf, yearWritten, eclipseWritten, fieldsWritten}
+use Rattle.sieveflicker.specs.Numbers.{numberIn, placesNumbers, yearNumbers, eclipseNumbers}
+use Rattle.sieveflicker.specs.Exported.{dayNumberOf, dateNumberOf, yearWritten, eclipseWritten, fieldsWritten}
+use Rattle.sieveflicker.proofs.Written.{year-follows, eclipse-follows, fields-follow}
 
 -- 643 month 5 day 16
 day : dayNumberOf 2 643 5 0 16 ≡ 1956072
@@ -44,31 +47,30 @@ year : yearWritten 1 1522 (replicate 56 7) ≡
     12 ∷ 0 ∷ 30 ∷ 2277320 ∷
     0 ∷ 0 ∷ 0 ∷ 0 ∷
     7 ∷ [])
-unfolding written placesNumbers
-year = rw months-1522
+unfolding placesNumbers
+year = year-follows 1 1522 (replicate 56 7) .room (omega arith) ∙ ap (λ a. then a (λ x. given (yearNumbers x ++ 7 ∷ []))) months-1522
 
 -- 1522 month 2
 eclipse : eclipseWritten 1 1522 2 0 (replicate 8 7) ≡ given (2277039 ∷ 6215 ∷ 1 ∷ 2241 ∷ 2 ∷ 14 ∷ 412 ∷ 1 ∷ [])
-unfolding written
-eclipse = rw eclipse-1522
+eclipse = eclipse-follows 1 1522 2 0 (replicate 8 7) .room (omega arith) ∙ ap (λ a. then a (λ e. given (eclipseNumbers e ++ []))) eclipse-1522
 
 -- the record as 01 prints it
 fields : fieldsWritten printed-1522 (replicate 5 7) ≡ given (1 ∷ 1522 ∷ 2276996 ∷ 0 ∷ 3402 ∷ [])
-unfolding written numbersOf
-fields = rw read-1522
+unfolding numbersOf
+fields = fields-follow printed-1522 (replicate 5 7) .room (omega arith) ∙ ap (λ a. then a (λ x. given (numbersOf layout x ++ []))) read-1522
 
 -- ---- refusals, the first in 01's order where several hold
 
 -- 6: too little memory, for a calendar that is none
 short-year : yearWritten 3 0 (replicate 54 7) ≡ refused 6
-unfolding written
+unfolding asking
 short-year = refl
 
 short-fields : fieldsWritten printed-1522 (replicate 4 7) ≡ refused 6
-unfolding written
+unfolding asking
 short-fields = refl
 
 -- 13, with a year and a month that are none
 genka-eclipse : eclipseWritten 2 0 0 1 (replicate 8 7) ≡ refused 13
-unfolding written eclipseOf
+unfolding asking
 genka-eclipse = refl

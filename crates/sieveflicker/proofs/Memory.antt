@@ -4,15 +4,11 @@ use mathlib.Core.List.{List, [], _∷_, _++_}
 use Prim.Native.Nat.{ℕ, suc, _+_, _*_, _<_, _≤_}
 use native.Mathlib.Numerals.{add-one}
 use native.Mathlib.Omega.{arith}
-use borrow.Author.Tests.{lt-leb, le-leb}
 use lib.ListN.{length, getD, set, take, drop}
 use lib.Seq.{sets, sets-eq, take-suc, length-take-le}
-use Rattle.numbers.specs.Answer.{Answer, given, refused, refusalIn, leftIn}
-use Rattle.numbers.proofs.Answers.{fails, holds}
 use Rattle.calendar.specs.declared.Month.{Month}
 use Rattle.calendar.specs.Years.{noMonth}
 use Rattle.sieveflicker.specs.Numbers.{monthNumbers, placesNumbers}
-use Rattle.sieveflicker.specs.Exported.{written}
 
 module _ {A : Type 0} where
   -- four stores at places that are counted from the first
@@ -31,29 +27,6 @@ module _ {A : Type 0} where
   -- from the first place on, they stand before what is left of the memory
   pub sets-front : (out xs : List A) (count : ℕ) → length xs ≡ count → count ≤ length out → sets out 0 xs ≡ xs ++ drop count out
   sets-front out xs count e h = let all : 0 + length xs ≡ count = omega (arith, e) in sets-eq xs out 0 (omega (arith, e, h)) ∙ ap (λ n. xs ++ drop n out) all
-
--- what a call leaves, and answers, once it is known that ..
-module _ {A B : Type 0} (size : ℕ) (numbers : A → List B) (answer : Answer A) (out : List B) where
-  abbrev Left : ℕ → List B → Type 0
-  Left number left = (number ≡ refusalIn (written size numbers answer out)) × (left ≡ leftIn out (written size numbers answer out))
-
-  by : (number : ℕ) (left : List B) (result : Answer (List B)) → written size numbers answer out ≡ result → (number ≡ refusalIn result) × (left ≡ leftIn out result) → Left number left
-  by number left result e h = (h .0 ∙ sym (ap refusalIn e), h .1 ∙ sym (ap (leftIn out) e))
-
-  -- .. the memory is too short
-  pub too-short : length out < size → Left 6 out
-  unfolding written
-  too-short h = by 6 out (refused 6) (fails 6 _ _ (lt-leb _ _ h)) (refl, refl)
-
-  -- .. the call behind it refuses
-  pub passed-on : (n : ℕ) → size ≤ length out → answer ≡ refused n → Left n out
-  unfolding written
-  passed-on n h e = by n out (refused n) (holds 6 _ _ (le-leb _ _ h) ∙ rw e) (refl, refl)
-
-  -- .. it answers, and its numbers have been stored
-  pub stored : (a : A) (left : List B) → size ≤ length out → answer ≡ given a → length (numbers a) ≡ size → left ≡ sets out 0 (numbers a) → Left 0 left
-  unfolding written
-  stored a left h e all l = by 0 left (given (numbers a ++ drop size out)) (holds 6 _ _ (le-leb _ _ h) ∙ rw e) (refl, l ∙ sets-front out (numbers a) size all h)
 
 -- a year's places: each has four numbers, which go behind those of the places before it
 places-append : (ms ns : List Month) → placesNumbers (ms ++ ns) ≡ placesNumbers ms ++ placesNumbers ns

@@ -4,16 +4,16 @@ use mathlib.Core.Bool.{Bool}
 use Prim.Native.Nat.{ℕ}
 use native.Mathlib.Omega.{arith}
 use lib.ListN.{length}
-use Rattle.numbers.specs.Answer.{given}
+use Rattle.answers.specs.Answer.{given}
 use Rattle.eclipse.specs.Eclipse.{Graded}
 use Rattle.moons.specs.declared.FullMoon.{FullMoon}
 use Rattle.moons.specs.Eclipses.{eclipseOf}
-use Rattle.moons.proofs.Refusals.{moon-narrow}
+use Rattle.moons.proofs.Refusals.{moon-bounded}
 use Rattle.calendar.specs.declared.Year.{Year}
 use Rattle.calendar.specs.Years.{yearOf}
 use Rattle.calendar.proofs.Refusals.{thirteen-places}
 use Rattle.sieveflicker.specs.Numbers.{yearNumbers}
-use Rattle.sieveflicker.specs.Room.{Narrow}
+use Rattle.sieveflicker.specs.Room.{FitsPlaces}
 use Rattle.sieveflicker.proofs.Memory.{places-length}
 
 -- a year's numbers
@@ -21,7 +21,7 @@ pub year-size : (c y : ℕ) (x : Year) → yearOf c y ≡ given x → length (ye
 year-size c y x e = omega (arith, places-length (x .months), thirteen-places c y x e)
 
 -- a full moon's fen and distance
-pub moon-fits : (c y m : ℕ) (leap : Bool) (e : FullMoon × Graded) → eclipseOf c y m leap ≡ given e → Narrow (e .0)
+pub moon-fits : (c y m : ℕ) (leap : Bool) (e : FullMoon × Graded) → eclipseOf c y m leap ≡ given e → FitsPlaces (e .0)
 moon-fits c y m leap e h =
-    let n = moon-narrow c y m leap e h in
+    let n = moon-bounded c y m leap e h in
     record { fen-small = omega (arith, n .fen-below); distance-small = omega (arith, n .distance-below) }

@@ -2,7 +2,7 @@
 use mathlib.Core.Path.{_≡_, refl}
 use Prim.Native.Nat.{ℕ, _<_, _≤_}
 use native.Mathlib.Omega.{arith}
-use Rattle.numbers.specs.Answer.{given, refused}
+use Rattle.answers.specs.Answer.{given, refused}
 use Rattle.calendar.specs.declared.Date.{Date}
 use Rattle.calendar.specs.Dates.{dayOf, dateOf}
 use Rattle.calendar.proofs.Apart.{day-refusal-small, day-large, date-refusal-small, date-year-large}

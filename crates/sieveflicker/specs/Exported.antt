@@ -1,22 +1,22 @@
--- What each exported call answers: the answer of the call behind it, as numbers. Of a call that is lent memory, what the memory holds when it has been written.
-use mathlib.Core.List.{List, _++_}
+-- What each exported call answers: the answer of the call behind it, as numbers. Of a call that is lent memory, what the memory holds when it has been
+-- written: the numbers in its first places, and in the spare ones what they held.
+use mathlib.Core.Bool.{Bool}
+use mathlib.Core.List.{List, _∷_, _++_}
 use Prim.Native.Nat.{ℕ}
 use lib.Dec.{leb}
 use lib.Ieee.{Float}
 use lib.ListN.{length, drop}
-use Rattle.numbers.specs.Answer.{Answer, given, need, then}
-use Rattle.moons.specs.Eclipses.{eclipseOf}
-use Rattle.moons.specs.Instants.{moonsOf}
+use Rattle.answers.specs.Answer.{Answer, given, then}
+use Rattle.answers.specs.Conditions.{asking}
+use Rattle.asked.specs.Asked.{rulesFor, monthNamed, yearConditions, monthConditions}
+use Rattle.moons.specs.Eclipses.{eclipseIn, eclipseConditions}
+use Rattle.moons.specs.Instants.{moonsIn}
 use Rattle.calendar.specs.Dates.{dayOf, dateOf}
-use Rattle.calendar.specs.Years.{yearOf}
-use Rattle.record.specs.Tagged.{numbersOf}
-use Rattle.record.specs.Record.{layout, readOf}
+use Rattle.calendar.specs.Years.{yearIn}
+use Rattle.record.specs.Tagged.{numbersOf, numbersAt}
+use Rattle.record.specs.Record.{layout, fieldsFor, readConditions}
 use Rattle.kept.specs.Runs.{dateNumber}
 use Rattle.sieveflicker.specs.Numbers.{asksLeap, numberIn, yearNumbers, eclipseNumbers, moonsNumbers}
-
--- so many numbers of what is answered in the first places of lent memory, whose spare places keep what they held; memory that is shorter is refusal 6
-unfoldable pub written : {A B : Type 0} → ℕ → (A → List B) → Answer A → List B → Answer (List B)
-written size numbers answer out = need (leb size (length out)) 6 (then answer (λ a. given (numbers a ++ drop size out)))
 
 -- the day number
 abbrev pub dayNumberOf : ℕ → ℕ → ℕ → ℕ → ℕ → ℕ
@@ -26,18 +26,42 @@ dayNumberOf c y m leap d = numberIn (dayOf c y m (asksLeap leap) d)
 abbrev pub dateNumberOf : ℕ → ℕ → ℕ
 dateNumberOf c n = numberIn (then (dateOf c n) (λ t. given (dateNumber t)))
 
+-- the lent memory has so many places; else refusal 6
+abbrev pub hasRoom : {B : Type 0} → ℕ → List B → Bool
+hasRoom size out = leb size (length out)
+
 -- 55 numbers
+abbrev pub yearWrittenConditions : ℕ → ℕ → List ℕ → List (Bool × ℕ)
+yearWrittenConditions c y out =
+    (hasRoom 55 out, 6) ∷
+    yearConditions c y
+
 abbrev pub yearWritten : ℕ → ℕ → List ℕ → Answer (List ℕ)
-yearWritten c y out = written 55 yearNumbers (yearOf c y) out
+yearWritten c y out = asking (yearWrittenConditions c y out) (yearNumbers (yearIn (rulesFor c) y) ++ drop 55 out)
 
 -- 8 numbers
+abbrev pub eclipseWrittenConditions : ℕ → ℕ → ℕ → ℕ → List ℕ → List (Bool × ℕ)
+eclipseWrittenConditions c y m leap out =
+    (hasRoom 8 out, 6) ∷
+    eclipseConditions c y m (asksLeap leap)
+
 abbrev pub eclipseWritten : ℕ → ℕ → ℕ → ℕ → List ℕ → Answer (List ℕ)
-eclipseWritten c y m leap out = written 8 eclipseNumbers (eclipseOf c y m (asksLeap leap)) out
+eclipseWritten c y m leap out = asking (eclipseWrittenConditions c y m leap out) (eclipseNumbers (eclipseIn (monthNamed (rulesFor c) y m (asksLeap leap))) ++ drop 8 out)
 
 -- two dates
+abbrev pub moonsWrittenConditions : ℕ → ℕ → ℕ → ℕ → List Float → List (Bool × ℕ)
+moonsWrittenConditions c y m leap out =
+    (hasRoom 2 out, 6) ∷
+    monthConditions c y m (asksLeap leap)
+
 abbrev pub moonsWritten : ℕ → ℕ → ℕ → ℕ → List Float → Answer (List Float)
-moonsWritten c y m leap out = written 2 moonsNumbers (moonsOf c y m (asksLeap leap)) out
+moonsWritten c y m leap out = asking (moonsWrittenConditions c y m leap out) (moonsNumbers (moonsIn (rulesFor c) (monthNamed (rulesFor c) y m (asksLeap leap))) ++ drop 2 out)
 
 -- calendar, year, first day, leap number, long months
+abbrev pub fieldsWrittenConditions : List ℕ → List ℕ → List (Bool × ℕ)
+fieldsWrittenConditions bytes out =
+    (hasRoom 5 out, 6) ∷
+    readConditions bytes
+
 abbrev pub fieldsWritten : List ℕ → List ℕ → Answer (List ℕ)
-fieldsWritten bytes out = written 5 (numbersOf layout) (readOf bytes) out
+fieldsWritten bytes out = asking (fieldsWrittenConditions bytes out) (numbersOf layout (fieldsFor (numbersAt layout bytes 0)) ++ drop 5 out)

@@ -4,7 +4,7 @@ use mathlib.Core.List.{List, [], _∷_, _++_}
 use Prim.Native.Nat.{ℕ}
 use lib.Dec.{eqb}
 use lib.Ieee.{Float}
-use Rattle.numbers.specs.Answer.{Answer, given, refused}
+use Rattle.answers.specs.Answer.{Answer, given, refused}
 use Rattle.eclipse.specs.declared.Side.{Side}
 use Rattle.eclipse.specs.declared.Side.the-variants.{Yang, Yin}
 use Rattle.eclipse.specs.Eclipse.{Kind, none, total, partial, Graded}

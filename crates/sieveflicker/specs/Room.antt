@@ -3,6 +3,6 @@ use Prim.Native.Nat.{_<_, _^_}
 use Rattle.moons.specs.declared.FullMoon.{FullMoon}
 
 -- a full moon whose fen and distance fit their places
-pub record Narrow (m : FullMoon) : Type 0 where
+pub record FitsPlaces (m : FullMoon) : Type 0 where
   pub fen-small : m .fen .0 < 2 ^ 32
   pub distance-small : m .distance .0 < 2 ^ 32

@@ -4,12 +4,12 @@ ghost use mathlib.Core.List.{[], _∷_};
 ghost use Prim.Native.Nat.{_+_, _≤_};
 ghost use lib.ListN.{length};
 ghost use lib.Seq.{sets};
-ghost use Rattle.numbers.specs.Answer.{refusalIn, leftIn};
+ghost use Rattle.answers.specs.Answer.{refusalIn, leftIn};
 ghost use Rattle.eclipse.specs.Answers.{gradeMeans};
 ghost use Rattle.record.specs.Record.{writeOf};
 ghost use Rattle.sieveflicker.specs.Numbers.{monthNumbers, placesNumbers, yearNumbers, sideNumber, moonNumbers, gradeNumbers};
 ghost use Rattle.sieveflicker.specs.Exported.{dayNumberOf, dateNumberOf, yearWritten, eclipseWritten, moonsWritten, fieldsWritten};
-ghost use Rattle.sieveflicker.specs.Room.{Narrow};
+ghost use Rattle.sieveflicker.specs.Room.{FitsPlaces};
 use calendar::DateAnswer;
 use calendar::DayAnswer;
 use calendar::EclipseAnswer;
@@ -117,7 +117,7 @@ fn side_number(side: Side) -> u32
 }
 
 fn put_moon(out: &mut [u32], moon: FullMoon)
-    requires { ⌜ Narrow moon ⌝ }
+    requires { ⌜ FitsPlaces moon ⌝ }
     requires { ⌜ 4 ≤ length (now out) ⌝ }
     ensures { λ _. ⌜ now (out .exit) ≡ sets (now (out .entry)) 0 (moonNumbers moon) ⌝ }
 {

@@ -1,36 +1,28 @@
 -- The Sun's correction lies from −1526 to 1526 at every moment: between two whole days it runs along a line, and at whole days it is tested.
-use mathlib.Core.Bool.{Bool, _&&_}
-use Prim.Native.Nat.{ℕ, _+_, _*_, _/_, _%_, _<_}
+use mathlib.Core.Bool.{Bool}
+use Prim.Native.Nat.{ℕ, _+_, _*_, _/_, _<_}
 use native.Mathlib.Nat.{mod-eq-of-lt, div-eq-of-lt}
 use native.Mathlib.Omega.{arith}
 use lib.Dec.{T}
-use lib.IntN.{ℤ, pos, _+ℤ_, _*ℤ_}
+use lib.IntN.{pos, _*ℤ_}
 use lib.ListN.{getD}
 use lib.Signed.{_≤ℤ_}
-use mir.Facts.{and-yes}
 use Rattle.numbers.specs.Sign.{plus, minus}
 use Rattle.numbers.specs.Rounding.{nearest}
-use Rattle.numbers.proofs.Rounding.{Between, between, between-yes, between-ends, nearest-pos}
+use Rattle.numbers.specs.Between.{Between}
+use Rattle.numbers.proofs.Rounding.{ends, between-ends, nearest-pos}
 use Rattle.numbers.proofs.Tests.{every, at-each, at-each-row}
 use Rattle.units.specs.declared.Byo.{Byo}
 use Rattle.units.specs.Units.{dayByo, fenToByo}
+use Rattle.means.specs.Means.{solarYear}
 use Rattle.sun.specs.declared.Term.{Term}
-use Rattle.sun.specs.declared.Place.{Place}
-use Rattle.sun.specs.Sun.{Row, solsticeRow, laterRows, year, sunRows, noRow, afterDays, onDay, sunPlace, sunShare, sunOf}
+use Rattle.sun.specs.declared.TermPlace.{TermPlace}
+use Rattle.sun.specs.Sun.{Row, solsticeRow, laterRows, sunRows, noRow, afterDays, onDay, sunPlace, sunShare, sunOf}
 use Rattle.sun.proofs.Terms.{Fair, fair, place-here, Found, found}
 
 -- the correction at the start and at the end of the day after n whole days in a term
-abbrev start : Term → ℕ → ℤ
-start t n = nearest (afterDays t n *ℤ pos dayByo) (10000 * dayByo)
-
-abbrev end : Term → ℕ → ℤ
-end t n = nearest (afterDays t n *ℤ pos dayByo +ℤ onDay t n *ℤ pos dayByo) (10000 * dayByo)
-
-abbrev inside : ℤ → Bool
-inside z = between (minus 1526) z (plus 1526)
-
 dayTest : Term → ℕ → Bool
-dayTest t n = inside (start t n) && inside (end t n)
+dayTest t n = ends (minus 1526) (plus 1526) (afterDays t n *ℤ pos dayByo) (onDay t n) dayByo (10000 * dayByo)
 
 -- each day that a printed row's term has begun
 abbrev daysTest : Row → Bool
@@ -44,15 +36,14 @@ record Tested (r : Row) : Type 0 where
   row : Fair r
   days : T (daysTest r)
 
-in-day : (p : Place) → Found Tested p → Between (minus 1526) (nearest (sunShare p) (10000 * dayByo)) (plus 1526)
+in-day : (p : TermPlace) → Found Tested p → Between (minus 1526) (nearest (sunShare p) (10000 * dayByo)) (plus 1526)
 unfolding dayTest sunShare
 in-day p f =
     let t : Term = f .row .term in
     let n : ℕ = p .into .0 / dayByo in
     let row = f .holds .row in
-    let (first, last) = and-yes (inside (start t n)) (inside (end t n)) (at-each (dayTest t) 0 (f .row .span .0 / dayByo + 1) (f .holds .days) n (omega arith) (omega arith)) in
-    rw (f .its-term)
-    (between-ends (minus 1526) (plus 1526) (afterDays t n *ℤ pos dayByo) (onDay t n) dayByo (10000 * dayByo) (omega arith) (between-yes _ _ _ first) (between-yes _ _ _ last) (p .into .0 % dayByo) (omega arith))
+    let tested = at-each (dayTest t) 0 (f .row .span .0 / dayByo + 1) (f .holds .days) n (omega arith) (omega arith) in
+    rw (f .its-term) (between-ends _ _ (afterDays t n *ℤ pos dayByo) (onDay t n) dayByo _ (omega arith) tested _ (omega arith))
 
 pub sun-bounds : (at : Byo) → Between (minus 1526) (sunOf at) (plus 1526)
 unfolding sunOf
@@ -64,4 +55,4 @@ pub sun-first-day : (at : Byo) → at .0 < dayByo → pos 0 ≤ℤ sunOf at
 unfolding sunOf sunPlace sunShare afterDays onDay solsticeRow
 sun-first-day at h =
     let here = place-here solsticeRow laterRows (at .0) (omega arith) in
-    rw (mod-eq-of-lt {n = at .0} {m = fenToByo year .0} (omega arith), here, div-eq-of-lt h, mod-eq-of-lt h) (nearest-pos _ _)
+    rw (mod-eq-of-lt {n = at .0} {m = fenToByo solarYear .0} (omega arith), here, div-eq-of-lt h, mod-eq-of-lt h) (nearest-pos _ _)

@@ -1,18 +1,17 @@
 -- The Sun's numbers fit their words, whole days before the sixteenth in a printed term.
 use mathlib.Core.Path.{_≡_, refl}
-use Prim.Native.Nat.{ℕ, zero, suc, _+_, _-_, _*_, _/_, _%_, _<_, _≤_, _^_}
+use Prim.Native.Nat.{ℕ, zero, suc, _+_, _-_, _*_, _/_, _%_, _<_, _≤_}
 use native.Mathlib.Nat.{mul-suc, mul-le-mul}
 use native.Mathlib.Omega.{arith}
-use lib.IntN.{ℤ, pos, natAbs, _+ℤ_, _*ℤ_}
+use lib.IntN.{ℤ, pos, _+ℤ_, _*ℤ_}
 use mir.Syntax.{w64}
-use mir.Val.{toZ, ofZ, SFits}
-use mir.Facts.{toZ-ofZ, toZ-pos}
-use Rattle.numbers.proofs.Size.{Small, small-add, small-mul, small-fits, Line, line}
+use mir.Val.{toZ}
+use Rattle.numbers.proofs.Size.{word, Worked, worked-word, told-word, small-word, worked-pos, constant, worked-add, worked-mul}
 use Rattle.units.specs.Units.{dayByo}
-use Rattle.sun.specs.declared.Place.{Place}
+use Rattle.sun.specs.declared.TermPlace.{TermPlace}
 use Rattle.sun.specs.declared.Term.{Term}
 use Rattle.sun.specs.Sun.{afterDays, onDay, sunShare}
-use Rattle.sun.specs.Room.{Narrow}
+use Rattle.sun.specs.Room.{DaysInTerm}
 use Rattle.sun.proofs.Terms.{Fair, Found}
 
 -- n(n − 1) as the code has it
@@ -26,64 +25,53 @@ pub square-more : (n : ℕ) → n ≤ n * n
 square-more zero = omega arith
 square-more (suc n) = omega (arith, mul-suc (suc n) n)
 
-module _ (t : Term) (n : ℕ) (h : Narrow t n) where
-  pub pairs-few : n * (n - 1) ≤ 15 * 14
-  pairs-few = mul-le-mul (let few : n ≤ 15 = omega arith in few) (let few : n - 1 ≤ 14 = omega arith in few)
+pub square-few : (n : ℕ) → n < 16 → n * n ≤ 15 * 15
+square-few n h = let few : n ≤ 15 = omega arith in mul-le-mul few few
 
-  pub square-few : n * n ≤ 15 * 15
-  square-few = let few : n ≤ 15 = omega arith in mul-le-mul few few
+pub pairs-few : (n : ℕ) → n < 16 → n * (n - 1) / 2 ≤ 112
+pairs-few n h = omega (arith, pairs n, square-few n h)
 
-  pub rate-small : Small (t .rate) 5000
-  rate-small = record { size = h .rate-small }
+-- what the code works out of a term's numbers
+module _ (t : Term) (n : ℕ) (h : DaysInTerm t n) where
+  rate : Worked (word (t .rate)) (t .rate) 5000
+  rate = small-word (t .rate) (h .rate-small) (omega arith)
 
-  pub first-small : Small (t .first) 400000
-  first-small = record { size = h .first-small }
+  first : Worked (word (t .first)) (t .first) 400000
+  first = small-word (t .first) (h .first-small) (omega arith)
 
-  pub sum-small : Small (t .sum) 20000000
-  sum-small = record { size = h .sum-small }
+  sum : Worked (word (t .sum)) (t .sum) 20000000
+  sum = small-word (t .sum) (h .sum-small) (omega arith)
 
-  -- each number is read back from its word as it is
-  pub rate-back : toZ w64 (ofZ w64 (t .rate)) ≡ t .rate
-  rate-back = toZ-ofZ (small-fits rate-small (omega arith))
+  pub by-first : Worked (word (t .first) *ℤ toZ w64 n) (t .first *ℤ pos n) (400000 * 15)
+  by-first = worked-mul first (worked-pos n 15 (omega arith) (omega arith))
 
-  pub first-back : toZ w64 (ofZ w64 (t .first)) ≡ t .first
-  first-back = toZ-ofZ (small-fits first-small (omega arith))
+  pub to-first : Worked (word (t .sum) +ℤ word (word (t .first) *ℤ toZ w64 n)) (t .sum +ℤ t .first *ℤ pos n) (20000000 + 400000 * 15)
+  to-first = worked-add sum (worked-word by-first (omega arith))
 
-  pub sum-back : toZ w64 (ofZ w64 (t .sum)) ≡ t .sum
-  sum-back = toZ-ofZ (small-fits sum-small (omega arith))
+  pub by-pairs : Worked (word (t .rate) *ℤ toZ w64 (n * (n - 1) / 2)) (t .rate *ℤ pos (n * (n - 1) / 2)) (5000 * 112)
+  by-pairs = worked-mul rate (worked-pos (n * (n - 1) / 2) 112 (pairs-few n (h .days-few)) (omega arith))
 
-  pub days-back : toZ w64 n ≡ pos n
-  days-back = toZ-pos w64 (let small : n < 2 ^ 63 = omega arith in small)
-
-  pub pairs-back : toZ w64 (n * (n - 1) / 2) ≡ pos (n * (n - 1) / 2)
-  pairs-back = toZ-pos w64 (let small : n * (n - 1) / 2 < 2 ^ 63 = omega (arith, pairs-few) in small)
-
-  pub first-line : Line (t .sum) (t .first) n
-  first-line = line n 15 (omega arith) sum-small first-small (omega arith)
-
-  pub rate-line : Line (t .sum +ℤ t .first *ℤ pos n) (t .rate) (n * (n - 1) / 2)
-  rate-line =
-      line (n * (n - 1) / 2) 105 (omega (arith, pairs-few))
-      (small-add sum-small (small-mul n 15 (omega arith) first-small)) rate-small
-      (omega arith)
-
-  pub day-line : Line (t .first) (t .rate) n
-  day-line = line n 15 (omega arith) first-small rate-small (omega arith)
-
-  pub after-small : Small (afterDays t n) (20000000 + 400000 * 15 + 5000 * 105)
+  pub after : Worked (word (word (t .sum) +ℤ word (word (t .first) *ℤ toZ w64 n)) +ℤ word (word (t .rate) *ℤ toZ w64 (n * (n - 1) / 2))) (afterDays t n) (20000000 + 400000 * 15 + 5000 * 112)
   unfolding afterDays
-  after-small =
-      small-add (small-add sum-small (small-mul n 15 (omega arith) first-small))
-      (small-mul (n * (n - 1) / 2) 105 (omega (arith, pairs-few)) rate-small)
+  after = worked-add (worked-word to-first (omega arith)) (worked-word by-pairs (omega arith))
 
-  pub day-small : Small (onDay t n) (400000 + 5000 * 15)
+  pub by-days : Worked (word (t .rate) *ℤ toZ w64 n) (t .rate *ℤ pos n) (5000 * 15)
+  by-days = worked-mul rate (worked-pos n 15 (omega arith) (omega arith))
+
+  pub day : Worked (word (t .first) +ℤ word (word (t .rate) *ℤ toZ w64 n)) (onDay t n) (400000 + 5000 * 15)
   unfolding onDay
-  day-small = small-add first-small (small-mul n 15 (omega arith) rate-small)
+  day = worked-add first (worked-word by-days (omega arith))
 
--- .. and so do those of a place that the search finds
-module _ (p : Place) (h : Found Fair p) where
-  pub narrow : Narrow (p .term) (p .into .0 / dayByo)
-  narrow =
+-- .. and of a place that the search finds
+abbrev daysIn : TermPlace → ℕ
+daysIn p = p .into .0 / dayByo
+
+abbrev restIn : TermPlace → ℕ
+restIn p = p .into .0 % dayByo
+
+module _ (p : TermPlace) (h : Found Fair p) where
+  pub in-term : DaysInTerm (p .term) (daysIn p)
+  in-term =
       let row = h .holds in
       rw (h .its-term)
       (record {
@@ -93,43 +81,12 @@ module _ (p : Place) (h : Found Fair p) where
         days-few = omega arith;
       })
 
-  pub after-back : toZ w64 (ofZ w64 (afterDays (p .term) (p .into .0 / dayByo))) ≡ afterDays (p .term) (p .into .0 / dayByo)
-  after-back = toZ-ofZ (small-fits (after-small _ _ narrow) (omega arith))
+  pub whole : {a : ℤ} → a ≡ afterDays (p .term) (daysIn p) → Worked (word a *ℤ pos dayByo) (afterDays (p .term) (daysIn p) *ℤ pos dayByo) (26560000 * dayByo)
+  whole e = worked-mul (told-word e (after _ _ in-term .small) (omega arith)) (constant dayByo)
 
-  pub day-back : toZ w64 (ofZ w64 (onDay (p .term) (p .into .0 / dayByo))) ≡ onDay (p .term) (p .into .0 / dayByo)
-  day-back = toZ-ofZ (small-fits (day-small _ _ narrow) (omega arith))
+  pub rest : {b : ℤ} → b ≡ onDay (p .term) (daysIn p) → Worked (word b *ℤ toZ w64 (restIn p)) (onDay (p .term) (daysIn p) *ℤ pos (restIn p)) (475000 * dayByo)
+  rest e = worked-mul (told-word e (day _ _ in-term .small) (omega arith)) (worked-pos (restIn p) dayByo (omega arith) (omega arith))
 
-  pub rest-back : toZ w64 (p .into .0 % dayByo) ≡ pos (p .into .0 % dayByo)
-  rest-back = toZ-pos w64 (let small : p .into .0 % dayByo < 2 ^ 63 = omega arith in small)
-
-  after-times : Small (afterDays (p .term) (p .into .0 / dayByo) *ℤ pos dayByo) ((20000000 + 400000 * 15 + 5000 * 105) * dayByo)
-  after-times = small-mul dayByo dayByo (omega arith) (after-small _ _ narrow)
-
-  pub after-fits : SFits w64 (afterDays (p .term) (p .into .0 / dayByo) *ℤ pos dayByo)
-  after-fits = small-fits after-times (omega arith)
-
-  pub share-line : Line (afterDays (p .term) (p .into .0 / dayByo) *ℤ pos dayByo) (onDay (p .term) (p .into .0 / dayByo)) (p .into .0 % dayByo)
-  share-line = line (p .into .0 % dayByo) dayByo (omega arith) after-times (day-small _ _ narrow) (omega arith)
-
-  pub share-small : natAbs (sunShare p) < 2 ^ 61
+  pub share : {a b : ℤ} → a ≡ afterDays (p .term) (daysIn p) → b ≡ onDay (p .term) (daysIn p) → Worked (word (word a *ℤ pos dayByo) +ℤ word (word b *ℤ toZ w64 (restIn p))) (sunShare p) (26560000 * dayByo + 475000 * dayByo)
   unfolding sunShare
-  share-small =
-      omega (
-        arith,
-        small-add after-times (small-mul (p .into .0 % dayByo) dayByo (omega arith) (day-small _ _ narrow)) .size,
-      )
-
-  -- what the code adds up, read back
-  pub share-read : (a b : ℤ) → a ≡ afterDays (p .term) (p .into .0 / dayByo) → b ≡ onDay (p .term) (p .into .0 / dayByo) → toZ w64 (ofZ w64 (toZ w64 (ofZ w64 (toZ w64 (ofZ w64 a) *ℤ pos dayByo)) +ℤ toZ w64 (ofZ w64 (toZ w64 (ofZ w64 b) *ℤ toZ w64 (p .into .0 % dayByo))))) ≡ sunShare p
-  unfolding sunShare
-  share-read a b ea eb =
-      rw (
-        ea,
-        after-back,
-        toZ-ofZ after-fits,
-        eb,
-        day-back,
-        rest-back,
-        toZ-ofZ (share-line .product),
-        toZ-ofZ (share-line .total),
-      )
+  share e f = worked-add (worked-word (whole e) (omega arith)) (worked-word (rest f) (omega arith))

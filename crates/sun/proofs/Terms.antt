@@ -1,30 +1,29 @@
 -- Laws of the true terms: what every printed row has, and how the search for a moment's term goes.
 use mathlib.Core.Path.{_≡_, refl, sym, ap, _∙_}
-use mathlib.Core.Bool.{Bool, true, false, _&&_}
+use mathlib.Core.Bool.{Bool, true, false}
 use mathlib.Core.List.{List, [], _∷_, map, reverse}
-use Prim.Native.Nat.{ℕ, zero, suc, _+_, _-_, _*_, _<_, _≤_}
+use Prim.Native.Nat.{ℕ, zero, suc, _+_, _-_, _*_, _/_, _<_, _≤_}
 use native.Mathlib.Nat.{mod-lt}
 use native.Mathlib.Numerals.{add-one}
 use native.Mathlib.Omega.{arith}
 use borrow.Author.Tests.{lt-ltb, le-ltb, ltb-true, ltb-false}
-use lib.Dec.{T, ltb, leb, ltb→lt, leb→le}
+use lib.Dec.{ltb, leb, ltb→lt, leb→le}
 use lib.IntN.{natAbs}
 use lib.ListN.{length, getD, take, drop}
 use lib.Seq.{drop-cons}
-use mir.Facts.{and-yes}
 use Rattle.numbers.proofs.Tests.{every, at-each, at-each-row}
 use Rattle.units.specs.declared.Byo.{Byo}
 use Rattle.units.specs.Units.{dayByo, fenToByo}
-use Rattle.sun.specs.declared.Term.{Term}
-use Rattle.sun.specs.declared.Place.{Place}
-use Rattle.sun.specs.Sun.{Row, solsticeRow, laterRows, sunRows, noRow, place, placeIn, year, sunPlace}
+use Rattle.means.specs.Means.{solarYear}
+use Rattle.sun.specs.declared.TermPlace.{TermPlace}
+use Rattle.sun.specs.Sun.{Row, solsticeRow, laterRows, sunRows, noRow, place, placeIn, sunPlace}
 use Rattle.sun.specs.Room.{lasting, startOf, TermAt}
 
 pub row-count : length sunRows ≡ 24
 unfolding laterRows
 row-count = refl
 
--- ---- what every row has, by one test over the table
+-- ---- what every row has, by a test of each number over the table
 
 pub record Fair (r : Row) : Type 0 where
   pub span-small : r .span .0 < 16 * dayByo
@@ -32,28 +31,15 @@ pub record Fair (r : Row) : Type 0 where
   pub first-small : natAbs (r .term .first) ≤ 400000
   pub sum-small : natAbs (r .term .sum) ≤ 20000000
 
-abbrev numbersTest : Term → Bool
-numbersTest t = leb (natAbs (t .rate)) 5000 && leb (natAbs (t .first)) 400000 && leb (natAbs (t .sum)) 20000000
-
-abbrev fairTest : Row → Bool
-fairTest r = ltb (r .span .0) (16 * dayByo) && numbersTest (r .term)
-
-opened : (r : Row) → T (fairTest r) → Fair r
-opened r h =
-    let t : Term = r .term in
-    let (span, numbers) = and-yes (ltb (r .span .0) (16 * dayByo)) (numbersTest t) h in
-    let (rate-first, sum) = and-yes (leb (natAbs (t .rate)) 5000 && leb (natAbs (t .first)) 400000) (leb (natAbs (t .sum)) 20000000) numbers in
-    let (rate, first) = and-yes (leb (natAbs (t .rate)) 5000) (leb (natAbs (t .first)) 400000) rate-first in
-    record {
-      span-small = ltb→lt _ _ span;
-      rate-small = leb→le _ _ rate;
-      first-small = leb→le _ _ first;
-      sum-small = leb→le _ _ sum;
-    }
-
 pub fair : (i : ℕ) → i < 24 → Fair (getD sunRows i noRow)
 unfolding every solsticeRow laterRows
-fair i h = opened _ (at-each-row fairTest noRow sunRows tt i h)
+fair i h =
+    record {
+      span-small = ltb→lt _ _ (at-each-row (λ r. ltb (r .span .0) (16 * dayByo)) noRow sunRows tt i h);
+      rate-small = leb→le _ _ (at-each-row (λ r. leb (natAbs (r .term .rate)) 5000) noRow sunRows tt i h);
+      first-small = leb→le _ _ (at-each-row (λ r. leb (natAbs (r .term .first)) 400000) noRow sunRows tt i h);
+      sum-small = leb→le _ _ (at-each-row (λ r. leb (natAbs (r .term .sum)) 20000000) noRow sunRows tt i h);
+    }
 
 -- ---- the search
 
@@ -92,57 +78,55 @@ passed (suc n) x h from =
 -- what is found of a moment that falls in a term
 pub place-at : (n x : ℕ) → TermAt n x → place (getD sunRows n noRow .term) (x - startOf n) ≡ placeIn solsticeRow laterRows x
 place-at n x h =
-    sym (place-here (getD sunRows n noRow) (drop (n + 1) sunRows) (x - startOf n) (omega (arith, start-next n (h .one-of-24), h .from, h .to))) ∙ passed n x (h .one-of-24) (h .from)
+    let within : x - startOf n < (getD sunRows n noRow) .span .0 = omega (arith, start-next n (h .one-of-24), h .from, h .to) in
+    sym (place-here (getD sunRows n noRow) (drop (n + 1) sunRows) (x - startOf n) within) ∙ passed n x (h .one-of-24) (h .from)
 
--- half a mean term after the mean start of each term stands between its start and the next one's, by one test over the table
-abbrev halfTest : ℕ → Bool
-halfTest n = leb (2 * startOf n) ((2 * n + 1) * 1022685) && leb ((2 * n + 1) * 1022685) (2 * startOf (n + 1))
-
-record Half (n : ℕ) : Type 0 where
-  from : 2 * startOf n ≤ (2 * n + 1) * 1022685
-  to : (2 * n + 1) * 1022685 ≤ 2 * startOf (n + 1)
-
-half-between : (n : ℕ) → n < 24 → Half n
+-- half a mean term after the mean start of each term stands between its start and the next one's, by two tests over the table
+half-between : (n : ℕ) → n < 24 → (2 * startOf n ≤ (2 * n + 1) * 1022685) × ((2 * n + 1) * 1022685 ≤ 2 * startOf (n + 1))
 unfolding every solsticeRow laterRows
 half-between n h =
-    let t = and-yes (leb (2 * startOf n) ((2 * n + 1) * 1022685)) (leb ((2 * n + 1) * 1022685) (2 * startOf (n + 1))) (at-each halfTest 0 24 tt n (omega arith) (omega arith)) in
-    record { from = leb→le _ _ (t .0); to = leb→le _ _ (t .1) }
+    let from = at-each (λ i. leb (2 * startOf i) ((2 * i + 1) * 1022685)) 0 24 tt n (omega arith) h in
+    let to = at-each (λ i. leb ((2 * i + 1) * 1022685) (2 * startOf (i + 1))) 0 24 tt n (omega arith) h in
+    (leb→le _ _ from, leb→le _ _ to)
 
 year-start : startOf 24 ≡ 24544440
 unfolding solsticeRow laterRows
 year-start = refl
 
--- by the mean, term n starts nearest to a moment of the year
-module _ (x n : ℕ) (low : n * 2045370 ≤ 2 * x + 1022685) (high : 2 * x + 1022685 < (n + 1) * 2045370) (inside : x < 24544440) where
+-- the term that by the mean starts nearest to a moment
+abbrev nearestTerm : ℕ → ℕ
+nearestTerm x = (2 * x + 1022685) / 2045370
+
+module _ (x : ℕ) (inside : x < 24544440) where
   -- if it has started, it is one of the 24, and the moment falls in it
-  pub at-nearest : startOf n ≤ x → TermAt n x
-  at-nearest from = by (ltb n 24) refl
+  pub at-nearest : startOf (nearestTerm x) ≤ x → TermAt (nearestTerm x) x
+  at-nearest from = by (ltb (nearestTerm x) 24) refl
     where
-      by : (b : Bool) → ltb n 24 ≡ b → TermAt n x
+      by : (b : Bool) → ltb (nearestTerm x) 24 ≡ b → TermAt (nearestTerm x) x
       by true e =
-          let few = ltb-true n 24 e in
-          record { one-of-24 = few; from = from; to = omega (arith, half-between n few .to, high) }
+          let few = ltb-true _ 24 e in
+          record { one-of-24 = few; from = from; to = omega (arith, half-between (nearestTerm x) few) }
       by false e =
-          let last : n ≡ 24 = omega (arith, ltb-false n 24 e, low, inside) in
-          absurd (omega (arith, ap startOf last, year-start, from, inside))
+          let last : nearestTerm x ≡ 24 = omega (arith, ltb-false (nearestTerm x) 24 e) in
+          absurd (omega (arith, ap startOf last, year-start))
 
   -- if it has not, there is one before it ..
-  pub not-first : x < startOf n → 1 ≤ n
-  not-first to = by n refl
+  pub not-first : x < startOf (nearestTerm x) → 1 ≤ nearestTerm x
+  not-first to = by (nearestTerm x) refl
     where
-      by : (m : ℕ) → n ≡ m → 1 ≤ n
-      by zero e = absurd (omega (arith, ap startOf e, to))
+      by : (m : ℕ) → nearestTerm x ≡ m → 1 ≤ nearestTerm x
+      by zero e = absurd (omega (arith, ap startOf e))
       by (suc m) e = omega (arith, e)
 
   -- .. and the moment falls in that one
-  pub before-nearest : x < startOf n → TermAt (n - 1) x
+  pub before-nearest : x < startOf (nearestTerm x) → TermAt (nearestTerm x - 1) x
   before-nearest to =
-      let again : n - 1 + 1 ≡ n = omega (arith, not-first to) in
-      let few : n - 1 < 24 = omega (arith, low, inside) in
-      record { one-of-24 = few; from = omega (arith, half-between (n - 1) few .from, low, not-first to); to = rw again to }
+      let again : nearestTerm x - 1 + 1 ≡ nearestTerm x = omega (arith, not-first to) in
+      let few : nearestTerm x - 1 < 24 = omega arith in
+      record { one-of-24 = few; from = omega (arith, half-between (nearestTerm x - 1) few, not-first to); to = rw again to }
 
 -- what is found: a row's term, with what holds of every row, and a place within its span
-pub record Found (P : Row → Type 0) (p : Place) : Type 0 where
+pub record Found (P : Row → Type 0) (p : TermPlace) : Type 0 where
   pub row : Row
   pub its-term : p .term ≡ row .term
   pub holds : P row
@@ -155,13 +139,13 @@ found-in P r (q ∷ qs) x rows h =
     by-span (ltb x (r .span .0)) refl
     (λ over. found-in P q qs (x - r .span .0) (λ i g. rows (suc i) (omega arith)) (omega arith))
   where
-    by-span : (b : Bool) → ltb x (r .span .0) ≡ b → (r .span .0 ≤ x → Found P (placeIn q qs (x - r .span .0))) → Found P (elim b as (λ _. Place) [ true ↦ place (r .term) x | false ↦ placeIn q qs (x - r .span .0) ])
+    by-span : (b : Bool) → ltb x (r .span .0) ≡ b → (r .span .0 ≤ x → Found P (placeIn q qs (x - r .span .0))) → Found P (elim b as (λ _. TermPlace) [ true ↦ place (r .term) x | false ↦ placeIn q qs (x - r .span .0) ])
     by-span true e later =
         record { row = r; its-term = refl; holds = rows 0 (omega arith); within = ltb-true x (r .span .0) e }
     by-span false e later = later (ltb-false x (r .span .0) e)
 
 -- the 24 spans fill the year
-pub year-filled : lasting sunRows ≡ fenToByo year .0
+pub year-filled : lasting sunRows ≡ fenToByo solarYear .0
 unfolding solsticeRow laterRows
 year-filled = refl
 

@@ -8,8 +8,8 @@ use Rattle.sun.specs.declared.Term.{Term}
 use Rattle.sun.specs.Sun.{Row, sunRows}
 
 -- a term's numbers side by side
-abbrev pub numbersOf : Term → SunRow
-numbersOf t = (t .rate, t .first, t .sum)
+abbrev pub termRow : Term → SunRow
+termRow t = (t .rate, t .first, t .sum)
 
 -- how long the terms of some rows last together, in byo
 abbrev pub lasting : List Row → ℕ
@@ -27,7 +27,7 @@ pub record TermAt (n x : ℕ) : Type 0 where
   pub to : x < startOf (n + 1)
 
 -- a true term's numbers, and whole days in it
-pub record Narrow (t : Term) (n : ℕ) : Type 0 where
+pub record DaysInTerm (t : Term) (n : ℕ) : Type 0 where
   pub rate-small : natAbs (t .rate) ≤ 5000
   pub first-small : natAbs (t .first) ≤ 400000
   pub sum-small : natAbs (t .sum) ≤ 20000000

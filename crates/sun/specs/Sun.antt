@@ -7,10 +7,10 @@ use lib.IntN.{ℤ, pos, _+ℤ_, _*ℤ_}
 use Rattle.numbers.specs.Sign.{plus, minus}
 use Rattle.numbers.specs.Rounding.{nearest}
 use Rattle.units.specs.declared.Byo.{Byo}
-use Rattle.units.specs.declared.Fen.{Fen}
 use Rattle.units.specs.Units.{fen, byo, dayByo, fenToByo}
+use Rattle.means.specs.Means.{solarYear}
 use Rattle.sun.specs.declared.Term.{Term}
-use Rattle.sun.specs.declared.Place.{Place}
+use Rattle.sun.specs.declared.TermPlace.{TermPlace}
 
 -- a row: the span of a true term, and its numbers
 pub record Row : Type 0 where
@@ -59,22 +59,18 @@ sunRows = solsticeRow ∷ laterRows
 abbrev pub noRow : Row
 noRow = row 0 0 0 (plus 0) (plus 0) (plus 0)
 
-abbrev pub place : Term → ℕ → Place
+abbrev pub place : Term → ℕ → TermPlace
 place t x = record { term = t; into = byo x }
 
 -- x byo after the start of a row's term, which other rows follow: the term whose span holds that moment, start counted in
-unfoldable pub placeIn : Row → List Row → ℕ → Place
+unfoldable pub placeIn : Row → List Row → ℕ → TermPlace
 placeIn r [] x = place (r .term) x
 placeIn r (q ∷ qs) x =
     elim (ltb x (r .span .0)) [ true ↦ place (r .term) x | false ↦ placeIn q qs (x - r .span .0) ]
 
--- from a solstice to the next
-abbrev pub year : Fen
-year = fen 3068055
-
 -- from the solstice, modulo 3,068,055 fen
-unfoldable pub sunPlace : Byo → Place
-sunPlace at = placeIn solsticeRow laterRows (at .0 % fenToByo year .0)
+unfoldable pub sunPlace : Byo → TermPlace
+sunPlace at = placeIn solsticeRow laterRows (at .0 % fenToByo solarYear .0)
 
 -- n whole days into a term: sum + first × n + rate × n(n − 1)/2
 unfoldable pub afterDays : Term → ℕ → ℤ
@@ -86,7 +82,7 @@ onDay t n = t .first +ℤ t .rate *ℤ pos n
 
 -- n whole days and the rest of a day, r byo, into a term: the value after n days, plus the rest's share of the day's change;
 -- what is to be divided by 10,000 × a day's byo
-unfoldable pub sunShare : Place → ℤ
+unfoldable pub sunShare : TermPlace → ℤ
 sunShare p =
     let n : ℕ = p .into .0 / dayByo in
     let r : ℕ = p .into .0 % dayByo in

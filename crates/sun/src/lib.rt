@@ -1,12 +1,14 @@
+use means::SOLAR_YEAR;
 use units::BYO_IN_DAY;
 use units::BYO_IN_FEN;
 use units::Byo;
 ghost use mathlib.Core.Path.{_≡_};
-ghost use Prim.Native.Nat.{_<_, _≤_};
+ghost use Prim.Native.Nat.{_-_, _*_, _/_, _<_, _≤_};
 ghost use lib.ListN.{getD};
 ghost use Rattle.units.specs.Units.{byo, fenToByo};
-ghost use Rattle.sun.specs.Sun.{solsticeRow, laterRows, sunRows, noRow, placeIn, year, afterDays, onDay, sunOf};
-ghost use Rattle.sun.specs.Room.{numbersOf, startOf, TermAt, Narrow};
+ghost use Rattle.means.specs.Means.{solarYear};
+ghost use Rattle.sun.specs.Sun.{solsticeRow, laterRows, sunRows, noRow, placeIn, afterDays, onDay, sunOf};
+ghost use Rattle.sun.specs.Room.{termRow, startOf, TermAt, DaysInTerm};
 
 // A row as the page prints it: rate, first and sum in 1/10,000 fen. (Its span is in `start_of`.)
 pub struct SunRow(pub i64, pub i64, pub i64);
@@ -19,20 +21,20 @@ pub struct Term {
 }
 
 // A true term, and how far into it a moment stands.
-pub struct Place {
+pub struct TermPlace {
     pub term: Term,
     pub into: Byo,
 }
 
-// From a solstice to the next, in byo, and the mean of its 24 terms.
-const YEAR: u64 = 3068055 * BYO_IN_FEN;
+// From a solstice to the next, and the mean of its 24 terms.
+const YEAR: Byo = Byo(SOLAR_YEAR.0 * BYO_IN_FEN);
 
-const MEAN_TERM: u64 = YEAR / 24;
+const MEAN_TERM: Byo = Byo(YEAR.0 / 24);
 
 // The 24 true terms from the solstice (003, Table 2).
 fn row_of(number: usize) -> SunRow
     requires { ⌜ number < 24 ⌝ }
-    ensures { λ r. ⌜ r ≡ numbersOf (getD sunRows number noRow .term) ⌝ }
+    ensures { λ r. ⌜ r ≡ termRow (getD sunRows number noRow .term) ⌝ }
 {
     match number {
         0 => SunRow(-0_3695, 33_4511, 0),
@@ -104,17 +106,17 @@ fn start_of(number: usize) -> Byo
         21 => Byo(21_596_385),
         22 => Byo(22_587_070),
         23 => Byo(23_569_755),
-        _ => Byo(YEAR),
+        _ => YEAR,
     }
 }
 
 // The true term that a moment counted from the solstice falls in. Each starts within half a mean term of the mean one of its number, so it is the one
 // that by the mean starts nearest to the moment, or the one before.
 fn term_at(since_solstice: Byo) -> usize
-    requires { ⌜ «since_solstice» .0 < fenToByo year .0 ⌝ }
+    requires { ⌜ «since_solstice» .0 < fenToByo solarYear .0 ⌝ }
     ensures { λ r. ⌜ TermAt r («since_solstice» .0) ⌝ }
 {
-    let nearest = ((2 * since_solstice.0 + MEAN_TERM) / (2 * MEAN_TERM)) as usize;
+    let nearest = ((2 * since_solstice.0 + MEAN_TERM.0) / (2 * MEAN_TERM.0)) as usize;
     if since_solstice.0 < start_of(nearest).0 {
         nearest - 1
     } else {
@@ -123,29 +125,37 @@ fn term_at(since_solstice: Byo) -> usize
 }
 
 // That term, and how far into it the moment stands.
-fn place_of(since_solstice: Byo) -> Place
-    requires { ⌜ «since_solstice» .0 < fenToByo year .0 ⌝ }
+fn place_of(since_solstice: Byo) -> TermPlace
+    requires { ⌜ «since_solstice» .0 < fenToByo solarYear .0 ⌝ }
     ensures { λ r. ⌜ r ≡ placeIn solsticeRow laterRows («since_solstice» .0) ⌝ }
 {
     let number = term_at(since_solstice);
-    Place {
+    TermPlace {
         term: true_term(number),
         into: Byo(since_solstice.0 - start_of(number).0),
     }
 }
 
+// n(n - 1)/2.
+fn pairs_of(days: u64) -> u64
+    requires { ⌜ days < 16 ⌝ }
+    ensures { λ r. ⌜ r ≡ days * (days - 1) / 2 ⌝ }
+{
+    (days * days - days) / 2
+}
+
 // The correction after whole days in a term, in 1/10,000 fen.
 fn after_days(term: Term, days: u64) -> i64
-    requires { ⌜ Narrow term days ⌝ }
+    requires { ⌜ DaysInTerm term days ⌝ }
     ensures { λ r. ⌜ r ≡ afterDays term days ⌝ }
 {
-    let pairs = (days * days - days) / 2;
+    let pairs = pairs_of(days);
     term.sum + term.first * (days as i64) + term.rate * (pairs as i64)
 }
 
 // What it changes by in the day after that, in 1/10,000 fen.
 fn on_day(term: Term, days: u64) -> i64
-    requires { ⌜ Narrow term days ⌝ }
+    requires { ⌜ DaysInTerm term days ⌝ }
     ensures { λ r. ⌜ r ≡ onDay term days ⌝ }
 {
     term.first + term.rate * (days as i64)
@@ -155,7 +165,7 @@ fn on_day(term: Term, days: u64) -> i64
 pub fn sun_of(at: Byo) -> i64
     ensures { λ r. ⌜ r ≡ sunOf at ⌝ }
 {
-    let place = place_of(Byo(at.0 % YEAR));
+    let place = place_of(Byo(at.0 % YEAR.0));
     let days = place.into.0 / BYO_IN_DAY;
     let rest = place.into.0 % BYO_IN_DAY;
     let share = after_days(place.term, days) * (BYO_IN_DAY as i64)

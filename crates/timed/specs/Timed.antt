@@ -1,7 +1,7 @@
 -- What the benchmark is answered: a run held as plain numbers, and the run and the number that a call gives back.
 use mathlib.Core.List.{List}
 use Prim.Native.Nat.{ℕ, zero, suc}
-use Rattle.numbers.specs.Answer.{Answer, given, refused}
+use Rattle.answers.specs.Answer.{Answer, given, refused}
 use Rattle.calendar.specs.declared.Date.{Date}
 use Rattle.kept.specs.declared.Run.{Run}
 use Rattle.kept.specs.Runs.{dateNumber}

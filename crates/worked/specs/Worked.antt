@@ -6,7 +6,7 @@ use Prim.Native.Nat.{ℕ, _+_, _-_}
 use lib.IntN.{ℤ}
 use lib.ListN.{getD}
 use Rattle.numbers.specs.Sign.{plus, minus}
-use Rattle.numbers.specs.Answer.{given, then}
+use Rattle.answers.specs.Answer.{given, then}
 use Rattle.units.specs.declared.Fen.{Fen}
 use Rattle.units.specs.Units.{fen, fenToByo, byoToAnomalySeconds, wholeDays, fenOfDay}
 use Rattle.eclipse.specs.declared.Side.{Side}

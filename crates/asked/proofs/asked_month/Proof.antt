@@ -1,54 +1,71 @@
 -- `asked::asked_month` meets its contract: after the year, the month is asked for, and then whether it has the day.
-use mathlib.Core.Path.{_≡_, sym, ap, _∙_}
+use mathlib.Core.Path.{_≡_, sym, ap}
 use borrow.Author.Needs.{needs}
-use Rattle.numbers.specs.Answer.{given, refusalIn}
+use Rattle.answers.specs.Answer.{given}
+use Rattle.answers.specs.Conditions.{asking}
+use Rattle.answers.proofs.Conditions.{given-exactly}
+use Rattle.months.specs.declared.Calendar.{Calendar}
+use Rattle.months.specs.declared.Begun.{Begun}
 use Rattle.months.specs.Months.{begun}
 use Rattle.asked.specs.Asked.{yearAsked}
-use Rattle.asked.specs.Answers.{yearMeans, monthMeans}
 use Rattle.asked.specs.Room.{inYear}
-use Rattle.asked.proofs.Steps.{month-refused, month-lacking, day-there, day-lacking}
+use Rattle.asked.proofs.Steps.{month-asked}
 use Rattle.asked.proofs.Covered.{asked-covered, named-covered}
 use Rattle.asked.proofs.asked_month.Statement.{statement}
 use Rattle.asked.proofs.asked_month.Tie as tie
 
 returns : tie.Need-returns
-returns c =
-    let told = c .before .enum-told .given in
-    let number : c .year-refusal .result ≡ told .0 .0 = c .year-refusal .ensures ∙ ap (λ a. refusalIn (yearMeans a)) (told .1) in
-    rw number (sym (month-refused _ _ _ _ _ (told .0 .0) (sym (c .before .before .before .asked-year .ensures) ∙ ap yearMeans (told .1))))
+returns c = rw (month-asked, ← c .before .before .before .asked-year .ensures, c .year-refusal .ensures, c .before .enum-told .given .1)
 
 -- the year that was asked for, once it is known
-year-asked : (c : tie.After-known-told) → yearAsked (c .before .before .before .before .args .calendar) (c .before .before .before .before .args .year) ≡ given (c .before .asked .given .0 .0, c .before .asked .given .0 .1 .0)
-year-asked c = sym (c .before .before .before .asked-year .ensures) ∙ ap yearMeans (c .before .asked .given .1)
+year-asked : (c : tie.After-known-told) → let at = c .before .before .before .before .args in
+    yearAsked (at .calendar) (at .year) ≡ given (c .before .asked .given .0 .0, c .before .asked .given .0 .1 .0)
+year-asked c = rw (← c .before .before .before .asked-year .ensures, c .before .asked .given .1)
 
 named-month-requires : tie.Need-named-month-requires
 named-month-requires c κs = asked-covered _ _ _ _ (year-asked c)
 
 returns-2 : tie.Need-returns-2
 returns-2 c =
-    let told = c .enum-told2 .given in
     let n = c .before .before in
-    rw (told .1) (month-lacking _ _ _ _ _ _ _ (year-asked (n .before)) (told .0 .0) (sym (n .named-month .ensures) ∙ ap monthMeans (told .1)))
+    rw (month-asked, year-asked (n .before), ← n .named-month .ensures, c .enum-told2 .given .1)
 
 -- the month that is named, once it is found
-month-named : (c : tie.After-known-told2) → inYear begun (c .before .before .before .before .before .asked .given .0 .0) (c .before .before .before .before .before .asked .given .0 .1 .0) (c .before .before .before .before .before .before .before .before .args .number) (c .before .before .before .before .before .before .before .before .args .leap) ≡ given (c .before .named .given .0 .0, c .before .named .given .0 .1 .0)
-month-named c = sym (c .before .before .before .named-month .ensures) ∙ ap monthMeans (c .before .named .given .1)
+abbrev Month : tie.After-known-told2 → Type 0
+Month c =
+    let year = c .before .before .before .before .before in
+    let at = year .before .before .before .args in
+    inYear begun (year .asked .given .0 .0) (year .asked .given .0 .1 .0) (at .number) (at .leap) ≡ given (c .before .named .given .0 .0, c .before .named .given .0 .1 .0)
+
+-- .. which is one of the year's calendar
+record Found (c : tie.After-known-told2) : Type 0 where
+  month : Month c
+  calendar : c .before .named .given .0 .0 ≡ c .before .before .before .before .before .asked .given .0 .0
+
+found : (c : tie.After-known-told2) → Found c
+found c =
+    let month : Month c = rw (← c .before .before .before .named-month .ensures, c .before .named .given .1) in
+    record { month = month; calendar = sym (ap (λ (a : Calendar × Begun). a .0) (given-exactly _ _ _ .only-if month .1)) }
 
 has-day-requires : tie.Need-has-day-requires
 has-day-requires c κs =
     let year = c .before .before .before .before in
     let at = year .before .before .before .before .args in
-    named-covered _ _ (asked-covered _ _ _ _ (year-asked year)) (at .number) (at .leap) _ (month-named c)
+    named-covered _ _ (asked-covered _ _ _ _ (year-asked year)) (at .number) (at .leap) _ (found c .month)
 
 returns-3 : tie.Need-returns-3
+unfolding asking
 returns-3 c =
     let m = c .before .before in
-    day-there _ _ _ _ _ _ _ (year-asked (m .before .before .before .before)) _ (month-named m) (sym (c .before .has-day .ensures) ∙ c .if1 .taken)
+    let f = found m in
+    rw (month-asked, year-asked (m .before .before .before .before), f .month, f .calendar, ← c .before .has-day .ensures, c .if1 .taken)
 
 returns-4 : tie.Need-returns-4
+unfolding asking
 returns-4 c =
     let m = c .before .before in
-    day-lacking _ _ _ _ _ _ _ (year-asked (m .before .before .before .before)) _ (month-named m) (sym (c .before .has-day .ensures) ∙ c .if1 .left)
+    let f = found m in
+    rw (month-asked, year-asked (m .before .before .before .before), f .month, f .calendar, ← c .before .has-day .ensures, c .if1 .left)
 
 pub asked-month-spec : {M : Type 1} → statement M
 asked-month-spec =

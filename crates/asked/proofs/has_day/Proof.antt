@@ -23,9 +23,6 @@ returns-2 c =
     let at = c .before .before .args in
     rw (le-leb 1 (at .day) (c .before .if1 .left), le-leb (at .day) (monthLength (rulesOf (at .calendar)) (at .month .month)) (omega (arith, c .if2 .taken, room (c .before .before) .days .at-least)))
 
-add-begin : tie.Need-add-begin
-add-begin c = omega (arith, room (c .before .before .before) .fits .small)
-
 sub-result : tie.Need-sub-result
 sub-result c =
     let b = c .before .before in
@@ -40,4 +37,4 @@ returns-3 c =
     rw (b .begin .ensures, own, le-leb 1 (at .day) (b .before .before .before .if1 .left))
 
 pub has-day-spec : {M : Type 1} → statement M
-has-day-spec = tie.close (tie.spec returns returns-2 add-begin (λ c κs. search needs) sub-result returns-3)
+has-day-spec = tie.close (tie.spec returns returns-2 (λ c. omega (arith, room (c .before .before .before) .fits .small)) (λ c κs. search needs) sub-result returns-3)

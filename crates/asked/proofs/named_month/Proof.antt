@@ -1,17 +1,19 @@
 -- `asked::named_month` meets its contract: month `number` has the mid-term of that number, and a leap month is looked for by itself.
 use borrow.Author.Needs.{needs}
+use borrow.Author.Tests.{le-leb, lt-leb}
+use Rattle.answers.specs.Conditions.{asking}
 use Rattle.months.specs.Months.{begun}
-use Rattle.asked.proofs.Steps.{month-0, month-13, regular-found}
+use Rattle.asked.proofs.Steps.{regular-found}
 use Rattle.asked.proofs.named_month.Statement.{statement}
 use Rattle.asked.proofs.named_month.Tie as tie
 
 returns : tie.Need-returns
-returns c = let at = c .before .args in month-0 begun (at .calendar) (at .year) (at .number) (at .leap) (c .if1 .taken)
+unfolding asking
+returns c = rw (lt-leb _ _ (c .if1 .taken))
 
 returns-2 : tie.Need-returns-2
-returns-2 c =
-    let at = c .before .before .args in
-    month-13 begun (at .calendar) (at .year) (at .number) (at .leap) (c .before .if1 .left) (c .if2 .taken)
+unfolding asking
+returns-2 c = rw (le-leb _ _ (c .before .if1 .left), lt-leb _ _ (c .if2 .taken))
 
 returns-3 : tie.Need-returns-3
 returns-3 c = rw (c .before .if3 .taken) (c .leap-month .ensures)
@@ -19,7 +21,7 @@ returns-3 c = rw (c .before .if3 .taken) (c .leap-month .ensures)
 returns-4 : tie.Need-returns-4
 returns-4 c =
     let e = c .before .before in
-    rw (c .month-of .ensures, c .before .term-day .ensures) (regular-found begun _ _ _ _ (e .before .before .if1 .left) (e .before .if2 .left) (e .if3 .left))
+    rw (e .if3 .left, c .month-of .ensures, c .before .term-day .ensures) (regular-found begun _ _ _ (e .before .before .if1 .left) (e .before .if2 .left))
 
 pub named-month-spec : {M : Type 1} → statement M
 named-month-spec =

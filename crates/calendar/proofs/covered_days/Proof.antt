@@ -8,9 +8,6 @@ use Rattle.calendar.proofs.covered_days.Tie as tie
 enum-told : tie.Need-enum-told
 enum-told c = search needs
 
-enum-told-2 : tie.Need-enum-told-2
-enum-told-2 c = search needs
-
 returns : tie.Need-returns
 unfolding rulesOf
 returns c = rw (c .enum-told .given .1, senmyo-opens, senmyo-ends)
@@ -20,4 +17,4 @@ unfolding rulesOf
 returns-2 c = rw (c .enum-told2 .given .1, genka-opens, genka-ends)
 
 pub covered-days-spec : {M : Type 1} → statement M
-covered-days-spec = tie.close (tie.spec enum-told enum-told-2 returns returns-2)
+covered-days-spec = tie.close (tie.spec enum-told (λ c. search needs) returns returns-2)

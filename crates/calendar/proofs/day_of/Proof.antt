@@ -1,27 +1,24 @@
 -- `calendar::day_of` meets its contract: it counts from the first day of the month that has the day.
-use mathlib.Core.Path.{_≡_, sym, ap, _∙_}
+use mathlib.Core.Path.{_≡_}
 use Prim.Native.Nat.{_+_, _<_, _≤_, _^_}
 use native.Mathlib.Omega.{arith}
 use borrow.Author.Needs.{needs}
-use Rattle.numbers.specs.Answer.{given, refusalIn}
+use Rattle.answers.specs.Answer.{given}
 use Rattle.months.specs.Rules.{rulesOf}
 use Rattle.months.proofs.CoveredYears.{edges}
-use Rattle.asked.specs.Answers.{monthMeans}
 use Rattle.asked.specs.Asked.{monthAsked}
 use Rattle.asked.proofs.Covered.{month-room, asked-month-covered, asked-day}
-use Rattle.calendar.proofs.Steps.{day-refused, day-found}
+use Rattle.calendar.proofs.Steps.{day-asked}
 use Rattle.calendar.proofs.day_of.Statement.{statement}
 use Rattle.calendar.proofs.day_of.Tie as tie
 
 returns : tie.Need-returns
-returns c =
-    let told = c .before .enum-told .given in
-    let number : c .month-refusal .result ≡ told .0 .0 = c .month-refusal .ensures ∙ ap (λ a. refusalIn (monthMeans a)) (told .1) in
-    rw number (sym (day-refused _ _ _ _ _ (told .0 .0) (sym (c .before .before .before .asked-month .ensures) ∙ ap monthMeans (told .1))))
+returns c = rw (day-asked, ← c .before .before .before .asked-month .ensures, c .month-refusal .ensures, c .before .enum-told .given .1)
 
 -- the month that was asked for, once it is found
-month-asked : (c : tie.After-known-told) → monthAsked (c .before .before .before .before .args .calendar) (c .before .before .before .before .args .year) (c .before .before .before .before .args .month) (c .before .before .before .before .args .leap) (c .before .before .before .before .args .day) ≡ given (c .before .asked .given .0 .0, c .before .asked .given .0 .1 .0)
-month-asked c = sym (c .before .before .before .asked-month .ensures) ∙ ap monthMeans (c .before .asked .given .1)
+month-asked : (c : tie.After-known-told) → let at = c .before .before .before .before .args in
+    monthAsked (at .calendar) (at .year) (at .month) (at .leap) (at .day) ≡ given (c .before .asked .given .0 .0, c .before .asked .given .0 .1 .0)
+month-asked c = rw (← c .before .before .before .asked-month .ensures, c .before .asked .given .1)
 
 -- the day is one of 1 to 30, and a day of few digits
 record DayIn (c : tie.After-known-told) : Type 0 where
@@ -46,9 +43,6 @@ day-in c =
 add-t10 : tie.Need-add-t10
 add-t10 c = let d = day-in (c .before) in omega (arith, d .to, d .start-to, d .zero-to)
 
-sub-t11 : tie.Need-sub-t11
-sub-t11 c = omega (arith, day-in (c .before) .from)
-
 sub-t13 : tie.Need-sub-t13
 sub-t13 c = let d = day-in (c .before .before) in omega (arith, c .day-zero .ensures, d .from, d .start-from)
 
@@ -56,7 +50,7 @@ cast-t14 : tie.Need-cast-t14
 cast-t14 c = let d = day-in (c .before .before) in omega (arith, c .day-zero .ensures, d .from, d .to, d .start-from, d .start-to)
 
 returns-2 : tie.Need-returns-2
-returns-2 c = rw (c .day-zero .ensures) (day-found _ _ _ _ _ _ _ (month-asked (c .before .before)))
+returns-2 c = rw (day-asked, month-asked (c .before .before), c .day-zero .ensures)
 
 pub day-of-spec : {M : Type 1} → statement M
 day-of-spec =
@@ -68,7 +62,7 @@ day-of-spec =
     (λ c κs. search needs)
     returns
     add-t10
-    sub-t11
+    (λ c. omega (arith, day-in (c .before) .from))
     (λ c κs. search needs)
     sub-t13
     cast-t14

@@ -55,7 +55,9 @@ add-begin : tie.Need-add-begin Inv-loop μ-loop
 add-begin c = let w = within (c .before .before .before .before) in omega (arith, w .month, w .small)
 
 -- the month after, as it was begun
-begun-next : (c : tie.After-begin Inv-loop μ-loop) → c .begin .result ≡ begun (rulesOf (c .before .before .before .before .before .before .before .args .calendar)) (c .before .before .before .before .before .before .before .args .first .month + c .before .before .before .before .before .loop .place + 1)
+begun-next : (c : tie.After-begin Inv-loop μ-loop) → let a = c .before .before .before .before .before in
+    let at = a .before .before .args in
+    c .begin .result ≡ begun (rulesOf (at .calendar)) (at .first .month + a .loop .place + 1)
 begun-next c = rw (c .before .before .before .before .before .loop .inv .1) at (c .begin .ensures)
 
 listed-month-requires : tie.Need-listed-month-requires Inv-loop μ-loop
@@ -82,7 +84,8 @@ loop-again c =
     (omega (arith, b .before .before .if1 .taken, within a .month), rw on at (begun-next b), rw (c .before .listed-month .ensures, a .loop .inv .1, a .loop .inv .2) at (c .list .ensures) ∙ next-listed (rulesOf (at .calendar)) (at .first .month) place (within a .place-small))
 
 -- after the loop, the month before the end is left
-last : (c : tie.Else1 Inv-loop μ-loop) → c .before .before .before .before .before .args .end .month ≡ c .before .before .before .before .before .args .first .month + c .before .before .before .loop .place + 1
+last : (c : tie.Else1 Inv-loop μ-loop) → let at = c .before .before .before .before .before .args in
+    at .end .month ≡ at .first .month + c .before .before .before .loop .place + 1
 last c =
     let a = c .before .before .before in
     omega (arith, c .if1 .left, within a .month, a .loop .inv .0)

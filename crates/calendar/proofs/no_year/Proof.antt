@@ -3,11 +3,8 @@ use borrow.Author.Needs.{needs}
 use Rattle.calendar.proofs.no_year.Statement.{statement}
 use Rattle.calendar.proofs.no_year.Tie as tie
 
-no-month-requires : tie.Need-no-month-requires
-no-month-requires c κs = search needs
-
 returns : tie.Need-returns
 returns c = rw (c .no-month .ensures)
 
 pub no-year-spec : {M : Type 1} → statement M
-no-year-spec = tie.close (tie.spec no-month-requires returns)
+no-year-spec = tie.close (tie.spec (λ c κs. search needs) returns)

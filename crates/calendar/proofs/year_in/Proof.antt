@@ -1,8 +1,10 @@
 -- `calendar::year_in` meets its contract: the months from that of the Rain Water to the one before the next year's are listed.
 use mathlib.Core.Path.{_≡_, refl, ap, _∙_}
-use Prim.Native.Nat.{_+_}
+use Prim.Native.Nat.{ℕ, _+_}
 use native.Mathlib.Omega.{arith}
 use borrow.Author.Needs.{needs}
+use Rattle.months.specs.declared.Calendar.{Calendar}
+use Rattle.months.specs.declared.Begun.{Begun}
 use Rattle.months.specs.Rules.{rulesOf}
 use Rattle.months.specs.Months.{begun, firstMonth}
 use Rattle.months.proofs.FirstMonths.{first-with, next-with}
@@ -15,13 +17,14 @@ use Rattle.calendar.proofs.year_in.Statement.{statement}
 use Rattle.calendar.proofs.year_in.Tie as tie
 
 -- the two months that were found, and the room between them
-record Found (c : tie.After-month-of2) : Type 0 where
-  first : c .before .before .month-of .result ≡ begun (rulesOf (c .before .before .before .before .args .calendar)) (firstMonth (rulesOf (c .before .before .before .before .args .calendar)) (c .before .before .before .before .args .year))
-  next : c .month-of2 .result ≡ begun (rulesOf (c .before .before .before .before .args .calendar)) (firstMonth (rulesOf (c .before .before .before .before .args .calendar)) (c .before .before .before .before .args .year + 1))
-  covered : CoveredYear (rulesOf (c .before .before .before .before .args .calendar)) (c .before .before .before .before .args .year)
-  room : YearRoom (rulesOf (c .before .before .before .before .args .calendar)) (c .before .before .before .before .args .year)
+record Months (k : Calendar) (y : ℕ) (first next : Begun) : Type 0 where
+  first-is : first ≡ begun (rulesOf k) (firstMonth (rulesOf k) y)
+  next-is : next ≡ begun (rulesOf k) (firstMonth (rulesOf k) (y + 1))
+  covered : CoveredYear (rulesOf k) y
+  room : YearRoom (rulesOf k) y
 
-found : (c : tie.After-month-of2) → Found c
+found : (c : tie.After-month-of2) → let at = c .before .before .before .before .args in
+    Months (at .calendar) (at .year) (c .before .before .month-of .result) (c .month-of2 .result)
 found c =
     let m = c .before .before in
     let at = m .before .before .args in
@@ -29,20 +32,20 @@ found c =
     let s = steady (at .calendar) in
     let covered : CoveredYear r (at .year) = search needs in
     record {
-      first = rw (m .before .term-day .ensures) at (m .month-of .ensures) ∙ ap (begun r) (first-with r s (at .year));
-      next = rw (c .before .term-day2 .ensures) at (c .month-of2 .ensures) ∙ ap (begun r) (next-with r s (at .year));
+      first-is = rw (m .before .term-day .ensures) at (m .month-of .ensures) ∙ ap (begun r) (first-with r s (at .year));
+      next-is = rw (c .before .term-day2 .ensures) at (c .month-of2 .ensures) ∙ ap (begun r) (next-with r s (at .year));
       covered = covered;
       room = year-room (at .calendar) (at .year) covered;
     }
 
 sub-count : tie.Need-sub-count
-sub-count c = let f = found (c .before .before) in rw (f .first, f .next) (omega (arith, f .room .at-least))
+sub-count c = let f = found (c .before .before) in rw (f .first-is, f .next-is) (omega (arith, f .room .at-least))
 
 list-to-requires : tie.Need-list-to-requires
 list-to-requires c κs =
     let f = found (c .before .before) in
     let at = c .before .before .before .before .before .before .args in
-    rw (f .first, f .next)
+    rw (f .first-is, f .next-is)
     (record {
       first-own = refl;
       end-own = refl;
@@ -53,19 +56,19 @@ list-to-requires c κs =
     })
 
 sub-t9 : tie.Need-sub-t9
-sub-t9 c = let f = found (c .before .before .before .before .before .before) in rw (f .first, f .next) (f .room .days-from)
+sub-t9 c = let f = found (c .before .before .before .before .before .before) in rw (f .first-is, f .next-is) (f .room .days-from)
 
 cast-t10 : tie.Need-cast-t10
-cast-t10 c = let f = found (c .before .before .before .before .before .before) in rw (f .first, f .next) (omega (arith, f .room .days-from, f .room .days-to))
+cast-t10 c = let f = found (c .before .before .before .before .before .before) in rw (f .first-is, f .next-is) (omega (arith, f .room .days-from, f .room .days-to))
 
 cast-t11 : tie.Need-cast-t11
-cast-t11 c = let f = found (c .before .before .before .before .before .before) in rw (f .first, f .next) (omega (arith, f .room .at-most))
+cast-t11 c = let f = found (c .before .before .before .before .before .before) in rw (f .first-is, f .next-is) (omega (arith, f .room .at-most))
 
 returns : tie.Need-returns
 unfolding yearIn
 returns c =
     let f = found (c .before .before .before .before .before .before) in
-    rw (c .before .before .before .list-to .ensures, f .first, f .next)
+    rw (c .before .before .before .list-to .ensures, f .first-is, f .next-is)
 
 pub year-in-spec : {M : Type 1} → statement M
 year-in-spec =

@@ -11,20 +11,13 @@ returns c = rw (le-ltb _ 9737 (c .if1 .taken), gradeOf)
 
 returns-2 : tie.Need-returns-2
 unfolding gradeOf
-returns-2 c = rw (lt-ltb _ 9737 (c .before .before .if1 .left), le-leb _ 2147 (c .if2 .taken), gradeOf)
-
-sub-short : tie.Need-sub-short
-sub-short c = search needs
-
-cast-t5 : tie.Need-cast-t5
-cast-t5 c = search needs
-
-cast-t7 : tie.Need-cast-t7
-cast-t7 c = search needs
+returns-2 c = rw (lt-ltb _ 9737 (c .before .before .before .if1 .left), le-leb _ 2147 (c .if2 .taken), gradeOf)
 
 returns-3 : tie.Need-returns-3
 unfolding gradeOf
-returns-3 c = rw (lt-ltb _ 9737 (c .before .before .before .if1 .left), lt-leb _ 2147 (c .before .if2 .left), gradeOf)
+returns-3 c =
+    let e = c .before .before in
+    rw (lt-ltb _ 9737 (e .before .before .before .if1 .left), lt-leb _ 2147 (e .if2 .left), gradeOf)
 
 pub grade-of-spec : {M : Type 1} → statement M
-grade-of-spec = tie.close (tie.spec returns returns-2 sub-short cast-t5 cast-t7 returns-3)
+grade-of-spec = tie.close (tie.spec returns returns-2 (λ c. search needs) (λ c. search needs) (λ c. search needs) returns-3)

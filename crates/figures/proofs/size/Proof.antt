@@ -40,11 +40,5 @@ cast-result-2 c =
 add-result : tie.Need-add-result
 add-result c = rw (toZ-ofZ (c .before .fits .number), down c .size, toZ-ofZ (down c .fits)) (search needs)
 
-returns : tie.Need-returns
-returns c = search needs
-
-returns-2 : tie.Need-returns-2
-returns-2 c = search needs
-
 pub size-spec : {M : Type 1} → statement M
-size-spec = tie.close (tie.spec cast-result sub-result cast-result-2 add-result returns returns-2)
+size-spec = tie.close (tie.spec cast-result sub-result cast-result-2 add-result (λ c. search needs) (λ c. search needs))

@@ -4,9 +4,6 @@ use borrow.Author.Needs.{needs}
 use Rattle.genka.proofs.full_moon.Statement.{statement}
 use Rattle.genka.proofs.full_moon.Tie as tie
 
-new-moon-requires : tie.Need-new-moon-requires
-new-moon-requires c κs = search needs
-
 part-to-half-parts-requires : tie.Need-part-to-half-parts-requires
 part-to-half-parts-requires c κs = rw (c .new-moon .ensures) (omega arith)
 
@@ -17,4 +14,4 @@ returns : tie.Need-returns
 returns c = rw (c .before .part-to-half-parts .ensures, c .before .before .new-moon .ensures)
 
 pub full-moon-spec : {M : Type 1} → statement M
-full-moon-spec = tie.close (tie.spec new-moon-requires part-to-half-parts-requires add-t4 returns)
+full-moon-spec = tie.close (tie.spec (λ c κs. search needs) part-to-half-parts-requires add-t4 returns)

@@ -3,11 +3,8 @@ use borrow.Author.Needs.{needs}
 use Rattle.genka.proofs.new_moon_day.Statement.{statement}
 use Rattle.genka.proofs.new_moon_day.Tie as tie
 
-new-moon-requires : tie.Need-new-moon-requires
-new-moon-requires c κs = search needs
-
 returns : tie.Need-returns
 returns c = rw (c .before .new-moon .ensures)
 
 pub new-moon-day-spec : {M : Type 1} → statement M
-new-moon-day-spec = tie.close (tie.spec new-moon-requires returns)
+new-moon-day-spec = tie.close (tie.spec (λ c κs. search needs) returns)

@@ -20,26 +20,8 @@ asked c = search needs
 loop-holds : tie.Need-loop-holds Inv-loop μ-loop
 loop-holds c = let h = asked c in (omega (arith, h .some), omega arith, h .first-begun, λ more. absurd (omega (arith, more)))
 
-add-loop : tie.Need-add-loop Inv-loop μ-loop
-add-loop c = omega (arith, c .loop .inv .0, c .loop .inv .1, asked (c .before) .at-most-174)
-
-add-middle : tie.Need-add-middle Inv-loop μ-loop
-add-middle c = omega (arith, c .before .loop .inv .0, c .before .loop .inv .1, asked (c .before .before) .at-most-174)
-
-mul-if1 : tie.Need-mul-if1 Inv-loop μ-loop
-mul-if1 c = omega (arith, c .before .loop .inv .0, c .before .loop .inv .1, asked (c .before .before) .at-most-174)
-
-element-copy-out-if1 : tie.Need-element-copy-out-if1 Inv-loop μ-loop
-element-copy-out-if1 c = omega (arith, c .before .loop .inv .0, c .before .loop .inv .1, asked (c .before .before) .at-most-174)
-
-loop-less : tie.Need-loop-less Inv-loop μ-loop
-loop-less c = omega (arith, c .before .before .loop-test .taken)
-
 loop-again : tie.Need-loop-again Inv-loop μ-loop
 loop-again c = let loop = c .before .before .before .loop in (omega (arith, c .before .before .loop-test .taken), loop .inv .1, c .if1 .taken, loop .inv .3)
-
-loop-less-2 : tie.Need-loop-less-2 Inv-loop μ-loop
-loop-less-2 c = omega (arith, c .before .before .loop-test .taken)
 
 loop-again-2 : tie.Need-loop-again-2 Inv-loop μ-loop
 loop-again-2 c = let loop = c .before .before .before .loop in (omega (arith, c .before .before .loop-test .taken), omega (arith, loop .inv .0, loop .inv .1), loop .inv .2, λ more. c .if1 .left)
@@ -63,12 +45,12 @@ place-of-day-spec =
     Inv-loop
     μ-loop
     loop-holds
-    add-loop
-    add-middle
-    mul-if1
-    element-copy-out-if1
-    loop-less
+    (λ c. search needs)
+    (λ c. search needs)
+    (λ c. search needs)
+    (λ c. search needs)
+    (λ c. search needs)
     loop-again
-    loop-less-2
+    (λ c. search needs)
     loop-again-2
     returns)

@@ -7,20 +7,8 @@ use Rattle.julian.proofs.Moment.{days-gone}
 use Rattle.julian.proofs.julian_date.Statement.{statement}
 use Rattle.julian.proofs.julian_date.Tie as tie
 
-mul-numerator : tie.Need-mul-numerator
-mul-numerator c = omega (arith, days-gone _ _ _ (c .pre))
-
-add-numerator : tie.Need-add-numerator
-add-numerator c = omega (arith, days-gone _ _ _ (c .pre))
-
-sub-numerator : tie.Need-sub-numerator
-sub-numerator c = omega (arith, days-gone _ _ _ (c .pre))
-
 int-to-float-result : tie.Need-int-to-float-result
 int-to-float-result c = convertible _ (omega (arith, days-gone _ _ _ (c .before .pre)))
-
-int-to-float-result-2 : tie.Need-int-to-float-result-2
-int-to-float-result-2 c = search needs
 
 returns : tie.Need-returns
 unfolding instant
@@ -29,4 +17,4 @@ returns c =
     once _ _ (omega arith) (omega arith) (omega arith)
 
 pub julian-date-spec : {M : Type 1} → statement M
-julian-date-spec = tie.close (tie.spec mul-numerator add-numerator sub-numerator int-to-float-result int-to-float-result-2 returns)
+julian-date-spec = tie.close (tie.spec (λ c. omega (arith, days-gone _ _ _ (c .pre))) (λ c. omega (arith, days-gone _ _ _ (c .pre))) (λ c. omega (arith, days-gone _ _ _ (c .pre))) int-to-float-result (λ c. search needs) returns)

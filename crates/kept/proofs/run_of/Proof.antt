@@ -1,12 +1,10 @@
 -- `kept::run_of` meets its contract: before each turn the run has the content of the years so far.
 use mathlib.Core.Path.{_≡_, ap, _∙_}
-use Prim.Native.Nat.{_+_, _-_, _≤_}
+use Prim.Native.Nat.{_-_, _≤_}
 use native.Mathlib.Omega.{arith}
 use borrow.Author.Needs.{needs}
-use Rattle.kept.specs.declared.Run.{Run}
 use Rattle.kept.specs.Runs.{runOf}
 use Rattle.kept.specs.Room.{CoveredYears}
-use Rattle.kept.proofs.Content.{years-told}
 use Rattle.kept.proofs.Extending.{none-held, still-extendable, one-year-more}
 use Rattle.kept.proofs.run_of.Statement.{statement}
 use Rattle.kept.proofs.run_of.Tie as tie
@@ -17,9 +15,6 @@ Inv-loop calendar first-year years run₀ run = (run .years ≤ years) × (run �
 abbrev μ-loop : tie.MeasureT-loop
 μ-loop calendar first-year years run₀ run = years - run .years
 
-empty-run-requires : tie.Need-empty-run-requires Inv-loop μ-loop
-empty-run-requires c κs = search needs
-
 loop-holds : tie.Need-loop-holds Inv-loop μ-loop
 loop-holds c = rw (c .empty-run .ensures) (omega arith, none-held _ _)
 
@@ -27,17 +22,18 @@ with-next-requires : tie.Need-with-next-requires Inv-loop μ-loop
 with-next-requires c κs =
     let at = c .before .before .before .before .args in
     let room : CoveredYears (at .calendar) (at .first-year) (at .years) = search needs in
-    still-extendable _ _ _ _ room (c .before .before .loop .inv .1) (c .if1 .taken)
+    still-extendable _ _ _ (c .before .before .loop .inv .1) _ room (c .if1 .taken)
 
 -- each turn adds a year
-one-more : (c : tie.After-with-next Inv-loop μ-loop) → c .with-next .result .years ≡ c .before .before .before .loop .run .years + 1
-one-more c = ap (λ (x : Run). x .years) (c .with-next .ensures) ∙ years-told _ _ _
-
 loop-less : tie.Need-loop-less Inv-loop μ-loop
-loop-less c = omega (arith, one-more c, c .before .if1 .taken)
+loop-less c =
+    let more = one-year-more _ _ _ (c .before .before .before .loop .inv .1) _ (c .with-next .ensures) in
+    omega (arith, more .0, c .before .if1 .taken)
 
 loop-again : tie.Need-loop-again Inv-loop μ-loop
-loop-again c = (omega (arith, one-more c, c .before .if1 .taken), one-year-more _ _ _ _ (c .before .before .before .loop .inv .1) (c .with-next .ensures))
+loop-again c =
+    let more = one-year-more _ _ _ (c .before .before .before .loop .inv .1) _ (c .with-next .ensures) in
+    (omega (arith, more .0, c .before .if1 .taken), more .1)
 
 returns : tie.Need-returns Inv-loop μ-loop
 returns c =
@@ -51,7 +47,7 @@ run-of-spec =
     (tie.spec
     Inv-loop
     μ-loop
-    empty-run-requires
+    (λ c κs. search needs)
     loop-holds
     with-next-requires
     loop-less

@@ -2,9 +2,9 @@
 use mathlib.Core.Path.{_≡_, refl, sym}
 use mathlib.Core.Bool.{false}
 use mathlib.Core.List.{List, _∷_, _++_}
-use Prim.Native.Nat.{ℕ, suc, _+_, _-_, _<_, _≤_}
+use Prim.Native.Nat.{ℕ, suc, _+_, _-_, _<_}
 use native.Mathlib.Numerals.{add-one}
-use native.Mathlib.Omega.{arith}
+use borrow.Author.Needs.{needs}
 use borrow.Author.Tests.{ne-eqb}
 use lib.ListN.{length, getD, take, drop}
 use lib.Seq.{split-at, take-suc, take-all}
@@ -17,12 +17,11 @@ use Rattle.line.proofs.place_of.Tie as tie
 module _ (stop : ℕ) (bytes : List ℕ) (place : ℕ) (none : has stop (take place bytes) ≡ false) where
   here : place < length bytes → getD bytes place 0 ≡ stop → Stands stop bytes place
   here inside e =
-      let parts : take place bytes ++ stop ∷ drop (suc place) bytes ≡ bytes = sym (rw e at (split-at bytes place 0 inside)) in
-      let cut : Cut stop bytes (take place bytes) (drop (suc place) bytes) = rw parts at (cut-at stop (take place bytes) (drop (suc place) bytes) none) in
+      let front = take place bytes in
+      let rest = drop (suc place) bytes in
+      let parts : front ++ stop ∷ rest ≡ bytes = sym (rw e at (split-at bytes place 0 inside)) in
+      let cut : Cut stop bytes front rest = rw parts at (cut-at stop front rest none) in
       record { found = cut .found; inside = inside; front = sym (cut .front-is); rest = rw add-one (sym (cut .rest-is)) }
-
-  nowhere : length bytes ≤ place → has stop bytes ≡ false
-  nowhere past = rw (take-all place bytes past) at none
 
   passed : place < length bytes → (getD bytes place 0 ≡ stop → ⊥) → has stop (take (place + 1) bytes) ≡ false
   unfolding has
@@ -38,24 +37,6 @@ loop-holds : tie.Need-loop-holds Inv-loop μ-loop
 unfolding has
 loop-holds c = refl
 
-shared-slice-read-if1 : tie.Need-shared-slice-read-if1 Inv-loop μ-loop
-shared-slice-read-if1 c = omega arith
-
-returns : tie.Need-returns Inv-loop μ-loop
-returns c = here _ _ _ (c .before .before .before .loop .inv) (c .before .before .loop-test .taken) (c .if1 .taken)
-
-add-place : tie.Need-add-place Inv-loop μ-loop
-add-place c = omega arith
-
-loop-less : tie.Need-loop-less Inv-loop μ-loop
-loop-less c = omega arith
-
-loop-again : tie.Need-loop-again Inv-loop μ-loop
-loop-again c = passed _ _ _ (c .before .before .before .loop .inv) (c .before .before .loop-test .taken) (c .if1 .left)
-
-returns-2 : tie.Need-returns-2 Inv-loop μ-loop
-returns-2 c = nowhere _ _ _ (c .before .loop .inv) (c .loop-test .left)
-
 pub place-of-spec : {M : Type 1} → statement M
 place-of-spec =
     tie.close
@@ -63,9 +44,9 @@ place-of-spec =
     Inv-loop
     μ-loop
     loop-holds
-    shared-slice-read-if1
-    returns
-    add-place
-    loop-less
-    loop-again
-    returns-2)
+    (λ c. search needs)
+    (λ c. here _ _ _ (c .before .before .before .loop .inv) (c .before .before .loop-test .taken) (c .if1 .taken))
+    (λ c. search needs)
+    (λ c. search needs)
+    (λ c. passed _ _ _ (c .before .before .before .loop .inv) (c .before .before .loop-test .taken) (c .if1 .left))
+    (λ c. rw (take-all _ _ (c .loop-test .left)) at (c .before .loop .inv)))

@@ -4,17 +4,11 @@ use borrow.Author.Needs.{needs}
 use Rattle.means.proofs.mean_full_moon.Statement.{statement}
 use Rattle.means.proofs.mean_full_moon.Tie as tie
 
-mean-new-moon-requires : tie.Need-mean-new-moon-requires
-mean-new-moon-requires c κs = search needs
-
-fen-to-byo-requires : tie.Need-fen-to-byo-requires
-fen-to-byo-requires c κs = rw (c .mean-new-moon .ensures) (omega arith)
-
-add-t4 : tie.Need-add-t4
-add-t4 c = rw (c .before .fen-to-byo .ensures, c .before .before .mean-new-moon .ensures) (omega arith)
-
-returns : tie.Need-returns
-returns c = rw (c .before .fen-to-byo .ensures, c .before .before .mean-new-moon .ensures)
-
 pub mean-full-moon-spec : {M : Type 1} → statement M
-mean-full-moon-spec = tie.close (tie.spec mean-new-moon-requires fen-to-byo-requires add-t4 returns)
+mean-full-moon-spec =
+    tie.close
+    (tie.spec
+    (λ c κs. search needs)
+    (λ c κs. rw (c .mean-new-moon .ensures) (omega arith))
+    (λ c. let f = c .before .before in rw (f .fen-to-byo .ensures, f .before .mean-new-moon .ensures) (omega arith))
+    (λ c. let f = c .before .before in rw (f .fen-to-byo .ensures, f .before .mean-new-moon .ensures)))

@@ -3,11 +3,8 @@ use borrow.Author.Needs.{needs}
 use Rattle.months.proofs.begin.Statement.{statement}
 use Rattle.months.proofs.begin.Tie as tie
 
-start-requires : tie.Need-start-requires
-start-requires c κs = search needs
-
 returns : tie.Need-returns
 returns c = rw (c .start .ensures)
 
 pub begin-spec : {M : Type 1} → statement M
-begin-spec = tie.close (tie.spec start-requires returns)
+begin-spec = tie.close (tie.spec (λ c κs. search needs) returns)

@@ -10,42 +10,19 @@ use Rattle.months.proofs.last_term_by.Statement.{statement}
 use Rattle.months.proofs.last_term_by.Tie as tie
 
 -- the next month starts after day 0, and by the end of its word
-record Next (c : tie.Start) : Type 0 where
-  from : 0 < c .args .next
-  to : c .args .next ≤ 2 ^ 32
-
-next : (c : tie.Start) → Next c
+next : (c : tie.Start) → (0 < c .args .next) × (c .args .next ≤ 2 ^ 32)
 next c =
-    let at = c .args in
-    let k = at .month .month in
-    let own = c .pre .next-own in
-    record {
-      from = omega (arith, own, steady (at .calendar) .months-grow .grows k);
-      to = omega (arith, own, c .pre .starting .small, sizes (at .calendar) .start-size (k + 1));
-    }
-
-sub-mid-term-by : tie.Need-sub-mid-term-by
-sub-mid-term-by c = omega (arith, next c .from)
-
-cast-mid-term-by : tie.Need-cast-mid-term-by
-cast-mid-term-by c = omega (arith, next c .to)
+    let k = c .args .month .month in
+    omega (arith, c .pre, steady (c .args .calendar) .months-grow .grows k, sizes (c .args .calendar) .start-size (k + 1))
 
 returns : tie.Need-returns
 returns c =
     let start = c .before .before .before in
     let at = start .args in
-    let r = rulesOf (at .calendar) in
-    let k = at .month .month in
-    let own : at .month .start ≡ r .start k = ap (λ b. b .start) (start .pre .starting .own) in
-    rw (c .before .mid-day .ensures, own)
-    (last-told r (steady (at .calendar)) k (c .before .before .mid-term-by .result) _ (rw (start .pre .next-own) at (c .before .before .mid-term-by .ensures)) refl)
+    let term = c .before .before .mid-term-by in
+    let own : at .month .start ≡ rulesOf (at .calendar) .start (at .month .month) = ap (λ b. b .start) (start .pre .starting .own) in
+    rw (c .before .mid-day .ensures, own) (last-told _ (steady (at .calendar)) _ (term .result) _ (rw (start .pre .next-own) at (term .ensures)) refl)
 
 pub last-term-by-spec : {M : Type 1} → statement M
 last-term-by-spec =
-    tie.close
-    (tie.spec
-    sub-mid-term-by
-    cast-mid-term-by
-    (λ c κs. search needs)
-    (λ c κs. search needs)
-    returns)
+    tie.close (tie.spec (λ c. omega (arith, next c .0)) (λ c. omega (arith, next c .1)) (λ c κs. search needs) (λ c κs. search needs) returns)

@@ -7,21 +7,10 @@ use Rattle.months.proofs.Calendars.{genka-steady}
 use Rattle.months.proofs.month_by.Statement.{statement}
 use Rattle.months.proofs.month_by.Tie as tie
 
-returns : tie.Need-returns
-unfolding rulesOf
-returns c = rw (c .before .enum-told .given .1) (c .senmyo-month-by .ensures)
-
-returns-2 : tie.Need-returns-2
-unfolding rulesOf
-returns-2 c = rw (c .before .enum-told2 .given .1) (sym (span-is (genka .start) (genka-steady .months-grow) _ _ (c .month-by .ensures)))
-
 pub month-by-spec : {M : Type 1} → statement M
+unfolding rulesOf
 month-by-spec =
     tie.close
-    (tie.spec
-    (λ c. search needs)
-    (λ c κs. search needs)
-    (λ c. search needs)
-    (λ c κs. search needs)
-    returns
-    returns-2)
+    (tie.spec (λ c. search needs) (λ c κs. search needs) (λ c. search needs) (λ c κs. search needs)
+    (λ c. rw (c .before .enum-told .given .1) (c .senmyo-month-by .ensures))
+    (λ c. rw (c .before .enum-told2 .given .1) (sym (span-is (genka .start) (genka-steady .months-grow) _ _ (c .month-by .ensures)))))

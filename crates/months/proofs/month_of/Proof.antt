@@ -4,21 +4,10 @@ use Rattle.months.specs.Rules.{rulesOf}
 use Rattle.months.proofs.month_of.Statement.{statement}
 use Rattle.months.proofs.month_of.Tie as tie
 
-returns : tie.Need-returns
-unfolding rulesOf
-returns c = rw (c .before .enum-told .given .1) (c .senmyo-month .ensures)
-
-returns-2 : tie.Need-returns-2
-unfolding rulesOf
-returns-2 c = rw (c .before .enum-told2 .given .1) (c .genka-month .ensures)
-
 pub month-of-spec : {M : Type 1} → statement M
+unfolding rulesOf
 month-of-spec =
     tie.close
-    (tie.spec
-    (λ c. search needs)
-    (λ c κs. search needs)
-    (λ c. search needs)
-    (λ c κs. search needs)
-    returns
-    returns-2)
+    (tie.spec (λ c. search needs) (λ c κs. search needs) (λ c. search needs) (λ c κs. search needs)
+    (λ c. rw (c .before .enum-told .given .1) (c .senmyo-month .ensures))
+    (λ c. rw (c .before .enum-told2 .given .1) (c .genka-month .ensures)))

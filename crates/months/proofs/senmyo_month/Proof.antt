@@ -30,11 +30,4 @@ returns-2 c =
 
 pub senmyo-month-spec : {M : Type 1} → statement M
 senmyo-month-spec =
-    tie.close
-    (tie.spec
-    (λ c κs. search needs)
-    (λ c κs. search needs)
-    returns
-    sub-begin
-    (λ c κs. search needs)
-    returns-2)
+    tie.close (tie.spec (λ c κs. search needs) (λ c κs. search needs) returns sub-begin (λ c κs. search needs) returns-2)

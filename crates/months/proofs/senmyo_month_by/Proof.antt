@@ -17,21 +17,16 @@ returns c =
 returns-2 : tie.Need-returns-2
 returns-2 c =
     let l = c .before .before .before .before in
-    rw (l .latest-month .ensures) (sym (latest-has (l .before .args .day) (rw (c .before .new-moon-day .ensures, l .latest-month .ensures) at (c .if2 .taken))))
+    let begun = rw (c .before .new-moon-day .ensures, l .latest-month .ensures) at (c .if2 .taken) in
+    rw (l .latest-month .ensures) (sym (latest-has (l .before .args .day) begun))
 
 returns-3 : tie.Need-returns-3
 returns-3 c =
     let l = c .before .before .before .before in
-    rw (l .latest-month .ensures) (sym (before-has (l .before .args .day) (rw (c .before .new-moon-day .ensures, l .latest-month .ensures) at (c .if2 .left))))
+    let later = rw (c .before .new-moon-day .ensures, l .latest-month .ensures) at (c .if2 .left) in
+    rw (l .latest-month .ensures) (sym (before-has (l .before .args .day) later))
 
 pub senmyo-month-by-spec : {M : Type 1} → statement M
 senmyo-month-by-spec =
     tie.close
-    (tie.spec
-    (λ c κs. search needs)
-    (λ c κs. search needs)
-    returns
-    (λ c κs. search needs)
-    returns-2
-    (λ c. search needs)
-    returns-3)
+    (tie.spec (λ c κs. search needs) (λ c κs. search needs) returns (λ c κs. search needs) returns-2 (λ c. search needs) returns-3)

@@ -24,8 +24,9 @@ rounded-requires c κs = small-part (small-here (c .before)) (omega arith) (omeg
 returns-2 : tie.Need-returns-2
 returns-2 c =
     let day = c .before .if2 .taken in
+    let asked = c .before .before .before .before .args in
     let fits : SFits w64 (c .rounded .result) = search needs in
-    rw (toZ-ofZ fits, day, in-last) (rw (c .before .before .row-of .ensures, day) at (c .rounded .ensures))
+    rw (toZ-ofZ fits, day, in-last (asked .upper) (asked .over)) (rw (c .before .before .row-of .ensures, day) at (c .rounded .ensures))
 
 rounded-requires-2 : tie.Need-rounded-requires-2
 rounded-requires-2 c κs = small-part (small-here (c .before)) (omega arith) (omega arith) (omega arith)

@@ -3,7 +3,7 @@ use borrow.Author.Needs.{needs}
 use mir.Syntax.{w64}
 use mir.Val.{SFits}
 use mir.Facts.{toZ-ofZ}
-use Rattle.moon.proofs.SignedRows.{in-table, moon-in-row}
+use Rattle.moon.proofs.Rows.{in-table, moon-in-row}
 use Rattle.moon.proofs.moon_of.Statement.{statement}
 use Rattle.moon.proofs.moon_of.Tie as tie
 

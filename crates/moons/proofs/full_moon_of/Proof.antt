@@ -4,12 +4,9 @@ use Rattle.moons.specs.Instants.{fullMoonOf}
 use Rattle.moons.proofs.full_moon_of.Statement.{statement}
 use Rattle.moons.proofs.full_moon_of.Tie as tie
 
-phase-of-requires : tie.Need-phase-of-requires
-phase-of-requires c κs = search needs
-
 returns : tie.Need-returns
 unfolding fullMoonOf
 returns c = c .phase-of .ensures
 
 pub full-moon-of-spec : {M : Type 1} → statement M
-full-moon-of-spec = tie.close (tie.spec phase-of-requires returns)
+full-moon-of-spec = tie.close (tie.spec (λ c κs. search needs) returns)

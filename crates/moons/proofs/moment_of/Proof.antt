@@ -6,15 +6,6 @@ use Rattle.moons.proofs.moment_of.Tie as tie
 enum-told : tie.Need-enum-told
 enum-told c = search needs
 
-new-moon-requires : tie.Need-new-moon-requires
-new-moon-requires c κs = search needs
-
-enum-told-2 : tie.Need-enum-told-2
-enum-told-2 c = search needs
-
-full-moon-requires : tie.Need-full-moon-requires
-full-moon-requires c κs = search needs
-
 returns : tie.Need-returns
 returns c = rw (c .before .enum-told .given .1) (c .new-moon .ensures)
 
@@ -24,4 +15,4 @@ returns-2 c = rw (c .before .enum-told2 .given .1) (c .full-moon .ensures)
 pub moment-of-spec : {M : Type 1} → statement M
 moment-of-spec =
     tie.close
-    (tie.spec enum-told new-moon-requires enum-told-2 full-moon-requires returns returns-2)
+    (tie.spec enum-told (λ c κs. search needs) (λ c. search needs) (λ c κs. search needs) returns returns-2)

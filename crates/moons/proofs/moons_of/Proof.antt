@@ -1,53 +1,32 @@
 -- `moons::moons_of` meets its contract: a month that is found is covered, so that both its moons have Julian dates.
-use mathlib.Core.Path.{_≡_, sym, ap, _∙_}
+use mathlib.Core.Path.{_≡_}
 use borrow.Author.Needs.{needs}
-use Rattle.numbers.specs.Answer.{given, refusalIn}
+use Rattle.answers.specs.Answer.{given}
 use Rattle.months.specs.Rules.{rulesOf}
 use Rattle.months.specs.Room.{Covering}
 use Rattle.asked.specs.Asked.{moonAsked}
-use Rattle.asked.specs.Answers.{moonMeans}
 use Rattle.asked.proofs.Covered.{asked-moon-covered}
-use Rattle.moons.specs.Instants.{moonsIn, moonsOf}
-use Rattle.moons.proofs.Steps.{of-refused, of-found}
+use Rattle.moons.specs.Instants.{moonsOf}
+use Rattle.moons.proofs.Steps.{of-asked}
 use Rattle.moons.specs.declared.Phase.the-variants.{New, Full}
 use Rattle.moons.proofs.Moments.{moon-dated}
 use Rattle.moons.proofs.moons_of.Statement.{statement}
 use Rattle.moons.proofs.moons_of.Tie as tie
 
-asked-moon-requires : tie.Need-asked-moon-requires
-asked-moon-requires c κs = search needs
-
-enum-known-asked : tie.Need-enum-known-asked
-enum-known-asked c = search needs
-
-enum-told : tie.Need-enum-told
-enum-told c = search needs
-
-moon-refusal-requires : tie.Need-moon-refusal-requires
-moon-refusal-requires c κs = search needs
-
 returns : tie.Need-returns
 unfolding moonsOf
-returns c =
-    let told = c .before .enum-told .given in
-    let number : c .moon-refusal .result ≡ told .0 .0 = c .moon-refusal .ensures ∙ ap (λ a. refusalIn (moonMeans a)) (told .1) in
-    rw number (sym (of-refused moonsIn _ _ _ _ (told .0 .0) (sym (c .before .before .before .asked-moon .ensures) ∙ ap moonMeans (told .1))))
+returns c = rw (of-asked, ← c .before .before .before .asked-moon .ensures, c .moon-refusal .ensures, c .before .enum-told .given .1)
 
 -- the month that was asked for, once it is found
-moon-asked : (c : tie.After-known-told) → moonAsked (c .before .before .before .before .args .calendar) (c .before .before .before .before .args .year) (c .before .before .before .before .args .month) (c .before .before .before .before .args .leap) ≡ given (c .before .asked .given .0 .0, c .before .asked .given .0 .1 .0)
-moon-asked c = sym (c .before .before .before .asked-moon .ensures) ∙ ap moonMeans (c .before .asked .given .1)
+moon-asked : (c : tie.After-known-told) → let at = c .before .before .before .before .args in
+    moonAsked (at .calendar) (at .year) (at .month) (at .leap) ≡ given (c .before .asked .given .0 .0, c .before .asked .given .0 .1 .0)
+moon-asked c = rw (← c .before .before .before .asked-moon .ensures, c .before .asked .given .1)
 
 covered : (c : tie.After-known-told) → Covering (rulesOf (c .before .asked .given .0 .0)) (c .before .asked .given .0 .1 .0)
 covered c = asked-moon-covered _ _ _ _ _ (moon-asked c)
 
-new-moon-requires : tie.Need-new-moon-requires
-new-moon-requires c κs = search needs
-
 instant-of-requires : tie.Need-instant-of-requires
 instant-of-requires c κs = rw (c .new-moon .ensures) (moon-dated _ _ (covered (c .before)) New)
-
-full-moon-requires : tie.Need-full-moon-requires
-full-moon-requires c κs = search needs
 
 instant-of-requires-2 : tie.Need-instant-of-requires-2
 instant-of-requires-2 c κs = rw (c .full-moon .ensures) (moon-dated _ _ (covered (c .before .before .before)) Full)
@@ -58,19 +37,19 @@ returns-2 c =
     let first = c .before .before in
     let new = rw (first .before .new-moon .ensures) at (first .instant-of .ensures) in
     let full = rw (c .before .full-moon .ensures) at (c .instant-of2 .ensures) in
-    rw (new, full) (sym (of-found moonsIn _ _ _ _ _ _ (moon-asked (first .before .before))))
+    rw (of-asked, moon-asked (first .before .before), new, full)
 
 pub moons-of-spec : {M : Type 1} → statement M
 moons-of-spec =
     tie.close
     (tie.spec
-    asked-moon-requires
-    enum-known-asked
-    enum-told
-    moon-refusal-requires
+    (λ c κs. search needs)
+    (λ c. search needs)
+    (λ c. search needs)
+    (λ c κs. search needs)
     returns
-    new-moon-requires
+    (λ c κs. search needs)
     instant-of-requires
-    full-moon-requires
+    (λ c κs. search needs)
     instant-of-requires-2
     returns-2)

@@ -4,12 +4,9 @@ use Rattle.moons.specs.Instants.{newMoonOf}
 use Rattle.moons.proofs.new_moon_of.Statement.{statement}
 use Rattle.moons.proofs.new_moon_of.Tie as tie
 
-phase-of-requires : tie.Need-phase-of-requires
-phase-of-requires c κs = search needs
-
 returns : tie.Need-returns
 unfolding newMoonOf
 returns c = c .phase-of .ensures
 
 pub new-moon-of-spec : {M : Type 1} → statement M
-new-moon-of-spec = tie.close (tie.spec phase-of-requires returns)
+new-moon-of-spec = tie.close (tie.spec (λ c κs. search needs) returns)

@@ -22,12 +22,6 @@ by-side (negsuc n) d = refl
 size : (c : tie.After-size-of) → c .size-of .result ≡ mag (c .before .args .z)
 size c = rw (toZ-ofZ (c .before .fits .z)) at (c .size-of .ensures)
 
-size-of-requires : tie.Need-size-of-requires
-size-of-requires c κs = search needs
-
-div-on-side-of : tie.Need-div-on-side-of
-div-on-side-of c = search needs
-
 on-side-of-requires : tie.Need-on-side-of-requires
 on-side-of-requires c κs =
     omega (arith, size c, div-le-self (c .size-of .result) (c .before .args .divisor), c .before .fits .z .sfits)
@@ -40,4 +34,4 @@ returns c =
     (rw (toZ-ofZ (s .fits .z)) at (c .on-side-of .ensures) ∙ ap (λ n. onSideOf (s .args .z) (n / s .args .divisor)) (size (c .before)) ∙ by-side (s .args .z) (s .args .divisor))
 
 pub floor-of-spec : {M : Type 1} → statement M
-floor-of-spec = tie.close (tie.spec size-of-requires div-on-side-of on-side-of-requires returns)
+floor-of-spec = tie.close (tie.spec (λ c κs. search needs) (λ c. search needs) on-side-of-requires returns)

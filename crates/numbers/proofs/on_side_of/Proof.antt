@@ -10,12 +10,6 @@ use Rattle.numbers.proofs.Signs.{not-below, below, one-below}
 use Rattle.numbers.proofs.on_side_of.Statement.{statement}
 use Rattle.numbers.proofs.on_side_of.Tie as tie
 
-cast-result : tie.Need-cast-result
-cast-result c = search needs
-
-cast-result-2 : tie.Need-cast-result-2
-cast-result-2 c = search needs
-
 -- −1 − n, as the code has it
 lower : (c : tie.Else1) → negsuc 0 -ℤ toZ w64 (c .before .args .n) ≡ negsuc (c .before .args .n)
 lower c = rw (toZ-pos w64 (c .before .pre)) (one-below (c .before .args .n))
@@ -38,4 +32,4 @@ returns-2 c =
     ∙ ap (λ z. onSideOf z (c .before .args .n)) (sym (below (c .before .args .z) (rw (toZ-ofZ (c .before .fits .z)) at (c .if1 .left))))
 
 pub on-side-of-spec : {M : Type 1} → statement M
-on-side-of-spec = tie.close (tie.spec cast-result cast-result-2 sub-result returns returns-2)
+on-side-of-spec = tie.close (tie.spec (λ c. search needs) (λ c. search needs) sub-result returns returns-2)

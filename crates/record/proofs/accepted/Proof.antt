@@ -1,7 +1,7 @@
 -- `record::accepted` meets its contract: calendar and year are the rule's by themselves, and the other three fields are compared.
 use mathlib.Core.Path.{_≡_, sym, ap, _∙_}
 use borrow.Author.Needs.{needs}
-use Rattle.numbers.specs.Answer.{given}
+use Rattle.answers.specs.Answer.{given}
 use Rattle.record.specs.Tagged.{numbersOf}
 use Rattle.record.specs.Room.{fieldsOf}
 use Rattle.record.specs.Answers.{recordAnswer}
@@ -9,63 +9,54 @@ use Rattle.record.proofs.Steps.{fields-refuse, fields-give, accepted-th
 use Rattle.record.proofs.accepted.Statement.{statement}
 use Rattle.record.proofs.accepted.Tie as tie
 
-cast-fields-of : tie.Need-cast-fields-of
-cast-fields-of c = search needs
-
-cast-fields-of-2 : tie.Need-cast-fields-of-2
-cast-fields-of-2 c = search needs
-
-fields-of-requires : tie.Need-fields-of-requires
-fields-of-requires c κs = search needs
-
 returns : tie.Need-returns
 returns c =
     let answer = c .before .before .fields-of in
     let refused = fields-refuse _ _ _ (answer .ensures) (c .if1 .taken) in
-    answer .ensures ∙ ap recordAnswer (refused ∙ sym (accepted-then _ _ refused))
+    answer .ensures ∙ rw (accepted-then, refused)
 
 -- the rule's fields, once they are known
-known : (c : tie.After-fields) → fieldsOf (c .before .before .before .before .before .before .args .found .calendar) (c .before .before .before .before .before .before .args .found .year) ≡ given (c .before .before .before .fields-of .result .fields)
+known : (c : tie.After-fields) → let found = c .before .before .before .before .before .before .args .found in
+    fieldsOf (found .calendar) (found .year) ≡ given (c .before .before .before .fields-of .result .fields)
 known c = fields-give _ _ _ (c .before .before .before .fields-of .ensures) (c .before .if1 .left)
-
-refused-with-requires : tie.Need-refused-with-requires
-refused-with-requires c κs = search needs
 
 returns-2 : tie.Need-returns-2
 unfolding numbersOf
-returns-2 c = c .refused-with .ensures ∙ ap recordAnswer (sym (differs _ _ (known (c .before .before .before .before)) 2 (c .before .if2 .taken)))
-
-refused-with-requires-2 : tie.Need-refused-with-requires-2
-refused-with-requires-2 c κs = search needs
+returns-2 c =
+    let f = c .before .before .before .before in
+    c .refused-with .ensures ∙ ap recordAnswer (sym (differs _ _ (known f) 2 (c .before .if2 .taken)))
 
 returns-3 : tie.Need-returns-3
 unfolding numbersOf
-returns-3 c = c .refused-with2 .ensures ∙ ap recordAnswer (sym (differs _ _ (known (c .before .before .before .before .before .before .before)) 3 (c .before .if3 .taken)))
-
-refused-with-requires-3 : tie.Need-refused-with-requires-3
-refused-with-requires-3 c κs = search needs
+returns-3 c =
+    let f = c .before .before .before .before .before .before .before in
+    c .refused-with2 .ensures ∙ ap recordAnswer (sym (differs _ _ (known f) 3 (c .before .if3 .taken)))
 
 returns-4 : tie.Need-returns-4
 unfolding numbersOf
-returns-4 c = c .refused-with3 .ensures ∙ ap recordAnswer (sym (differs _ _ (known (c .before .before .before .before .before .before .before .before .before .before)) 4 (c .before .if4 .taken)))
+returns-4 c =
+    let f = c .before .before .before .before .before .before .before .before .before .before in
+    c .refused-with3 .ensures ∙ ap recordAnswer (sym (differs _ _ (known f) 4 (c .before .if4 .taken)))
 
 returns-5 : tie.Need-returns-5
 returns-5 c =
-    let given = known (c .before .before .before .before .before .before .before .before .before) in
-    c .before .before .before .before .before .before .before .before .before .before .before .before .fields-of .ensures ∙ ap recordAnswer (given ∙ sym (agrees _ _ given (c .before .before .before .before .before .before .if2 .left) (c .before .before .before .if3 .left) (c .if4 .left)))
+    let leap = c .before .before .before in
+    let first = leap .before .before .before in
+    let f = first .before .before .before in
+    f .before .before .before .fields-of .ensures ∙ ap recordAnswer (known f ∙ sym (agrees _ _ (known f) (first .if2 .left) (leap .if3 .left) (c .if4 .left)))
 
 pub accepted-spec : {M : Type 1} → statement M
 accepted-spec =
     tie.close
     (tie.spec
-    cast-fields-of
-    cast-fields-of-2
-    fields-of-requires
+    (λ c. search needs)
+    (λ c. search needs)
+    (λ c κs. search needs)
     returns
-    refused-with-requires
+    (λ c κs. search needs)
     returns-2
-    refused-with-requires-2
+    (λ c κs. search needs)
     returns-3
-    refused-with-requires-3
+    (λ c κs. search needs)
     returns-4
     returns-5)

@@ -24,9 +24,6 @@ returns c = sym (not-same _ _ (λ e. c .if1 .taken (ap length e)))
 loop-holds : tie.Need-loop-holds Inv-loop μ-loop
 loop-holds c = (omega arith, c .if1 .left, refl)
 
-shared-slice-read-if2 : tie.Need-shared-slice-read-if2 Inv-loop μ-loop
-shared-slice-read-if2 c = search needs
-
 shared-slice-read-if2-2 : tie.Need-shared-slice-read-if2-2 Inv-loop μ-loop
 shared-slice-read-if2-2 c = omega (arith, c .before .before .loop-test .taken, c .before .before .before .loop .inv .1)
 
@@ -35,12 +32,6 @@ returns-2 c =
     let loop = c .before .before .before .before .loop in
     let taken = c .before .before .before .loop-test .taken in
     sym (sym (loop .inv .2) ∙ not-same-on eqb _ _ (loop .place) _ _ taken (omega (arith, taken, loop .inv .1)) (ne-eqb _ _ (c .if2 .taken)))
-
-add-place : tie.Need-add-place Inv-loop μ-loop
-add-place c = search needs
-
-loop-less : tie.Need-loop-less Inv-loop μ-loop
-loop-less c = omega (arith, c .before .before .before .loop-test .taken)
 
 loop-again : tie.Need-loop-again Inv-loop μ-loop
 loop-again c =
@@ -61,10 +52,10 @@ are-same-spec =
     μ-loop
     returns
     loop-holds
-    shared-slice-read-if2
+    (λ c. search needs)
     shared-slice-read-if2-2
     returns-2
-    add-place
-    loop-less
+    (λ c. search needs)
+    (λ c. omega (arith, c .before .before .before .loop-test .taken))
     loop-again
     returns-3)

@@ -21,22 +21,10 @@ loop-holds c =
     let all : length (c .args .t1) ≡ 13 = search needs in
     (omega arith, sym (ap longMonths (drop-of-length-le (c .args .t1) {i = 13} (omega (arith, all)))))
 
-sub-place : tie.Need-sub-place Inv-loop μ-loop
-sub-place c = omega (arith, c .loop-test .taken)
-
-mul-with-month : tie.Need-mul-with-month Inv-loop μ-loop
-mul-with-month c = omega (arith, c .before .loop .inv .0)
-
-array-copy-out-with-month : tie.Need-array-copy-out-with-month Inv-loop μ-loop
-array-copy-out-with-month c = omega (arith, c .before .loop .inv .0, c .loop-test .taken)
-
 with-month-requires : tie.Need-with-month-requires Inv-loop μ-loop
 with-month-requires c κs =
     let all : length (c .before .before .before .args .t1) ≡ 13 = search needs in
     omega (arith, c .before .before .loop .inv .1, thirteen-bits (c .before .before .before .args .t1) (c .before .before .loop .place) all)
-
-loop-less : tie.Need-loop-less Inv-loop μ-loop
-loop-less c = omega (arith, c .before .before .loop-test .taken)
 
 loop-again : tie.Need-loop-again Inv-loop μ-loop
 loop-again c =
@@ -57,10 +45,10 @@ long-months-spec =
     Inv-loop
     μ-loop
     loop-holds
-    sub-place
-    mul-with-month
-    array-copy-out-with-month
+    (λ c. omega (arith, c .loop-test .taken))
+    (λ c. omega (arith, c .before .loop .inv .0))
+    (λ c. omega (arith, c .before .loop .inv .0, c .loop-test .taken))
     with-month-requires
-    loop-less
+    (λ c. omega (arith, c .before .before .loop-test .taken))
     loop-again
     returns)

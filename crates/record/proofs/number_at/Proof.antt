@@ -32,29 +32,15 @@ small c =
     let there : NumberThere (c .before .before .args .bytes .now) (c .before .before .args .place) (c .before .before .args .count) = search needs in
     three-bytes (c .before .loop .number) (c .before .loop .taken) (c .before .loop .inv .2) (omega (arith, c .loop-test .taken, there .at-most-4))
 
-mul-number : tie.Need-mul-number Inv-loop μ-loop
-mul-number c = omega (arith, small c)
-
 add-number : tie.Need-add-number Inv-loop μ-loop
 add-number c = let within = inside c in search needs
 
 shared-slice-read-number : tie.Need-shared-slice-read-number Inv-loop μ-loop
 shared-slice-read-number c = inside (c .before)
 
-byte : (c : tie.After-shared-slice-known Inv-loop μ-loop) → getD (c .before .before .before .args .bytes .now) (c .before .before .before .args .place + c .before .before .loop .taken) 0 < 256
+byte : (c : tie.After-shared-slice-known Inv-loop μ-loop) → let at = c .before .before .before .args in
+    getD (at .bytes .now) (at .place + c .before .before .loop .taken) 0 < 256
 byte c = omega (arith, c .shared-slice-known .given (c .before .before .before .args .place + c .before .before .loop .taken))
-
-cast-number : tie.Need-cast-number Inv-loop μ-loop
-cast-number c = omega (arith, byte c)
-
-add-number-2 : tie.Need-add-number-2 Inv-loop μ-loop
-add-number-2 c = omega (arith, small (c .before), byte c)
-
-add-taken : tie.Need-add-taken Inv-loop μ-loop
-add-taken c = search needs
-
-loop-less : tie.Need-loop-less Inv-loop μ-loop
-loop-less c = omega (arith, c .before .loop-test .taken)
 
 loop-again : tie.Need-loop-again Inv-loop μ-loop
 unfolding numberAt
@@ -74,12 +60,12 @@ number-at-spec =
     Inv-loop
     μ-loop
     loop-holds
-    mul-number
+    (λ c. omega (arith, small c))
     add-number
     shared-slice-read-number
-    cast-number
-    add-number-2
-    add-taken
-    loop-less
+    (λ c. omega (arith, byte c))
+    (λ c. omega (arith, small (c .before), byte c))
+    (λ c. search needs)
+    (λ c. omega (arith, c .before .loop-test .taken))
     loop-again
     returns)

@@ -4,20 +4,11 @@ use Rattle.record.proofs.LongMonths.{long-told, short-told}
 use Rattle.record.proofs.with_month.Statement.{statement}
 use Rattle.record.proofs.with_month.Tie as tie
 
-mul-result : tie.Need-mul-result
-mul-result c = search needs
-
-add-result : tie.Need-add-result
-add-result c = search needs
-
 returns : tie.Need-returns
 returns c = long-told _ _ (c .if1 .taken)
-
-mul-result-2 : tie.Need-mul-result-2
-mul-result-2 c = search needs
 
 returns-2 : tie.Need-returns-2
 returns-2 c = short-told _ _ (c .if1 .left)
 
 pub with-month-spec : {M : Type 1} → statement M
-with-month-spec = tie.close (tie.spec mul-result add-result returns mul-result-2 returns-2)
+with-month-spec = tie.close (tie.spec (λ c. search needs) (λ c. search needs) returns (λ c. search needs) returns-2)

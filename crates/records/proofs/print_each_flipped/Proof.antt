@@ -10,33 +10,15 @@ Inv-loop place₀ place = place ≤ 25
 abbrev μ-loop : tie.MeasureT-loop
 μ-loop place₀ place = 25 - place
 
-loop-holds : tie.Need-loop-holds Inv-loop μ-loop
-loop-holds c = search needs
-
-print-flipped-requires : tie.Need-print-flipped-requires Inv-loop μ-loop
-print-flipped-requires c κs = search needs
-
-add-place : tie.Need-add-place Inv-loop μ-loop
-add-place c = search needs
-
-loop-less : tie.Need-loop-less Inv-loop μ-loop
-loop-less c = search needs
-
-loop-again : tie.Need-loop-again Inv-loop μ-loop
-loop-again c = search needs
-
-returns : tie.Need-returns Inv-loop μ-loop
-returns c = search needs
-
 pub print-each-flipped-spec : {M : Type 1} → statement M
 print-each-flipped-spec =
     tie.close
     (tie.spec
     Inv-loop
     μ-loop
-    loop-holds
-    print-flipped-requires
-    add-place
-    loop-less
-    loop-again
-    returns)
+    (λ c. search needs)
+    (λ c κs. search needs)
+    (λ c. search needs)
+    (λ c. search needs)
+    (λ c. search needs)
+    (λ c. search needs))

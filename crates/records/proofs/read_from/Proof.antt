@@ -10,11 +10,5 @@ use Rattle.records.proofs.read_from.Tie as tie
 slice-aggregate-read-record : tie.Need-slice-aggregate-read-record
 slice-aggregate-read-record c = let inside : c .before .before .args .count ≤ length (c .before .before .args .bytes .now) = search needs in sym (length-take-le _ _ inside)
 
-read-record-requires : tie.Need-read-record-requires
-read-record-requires c κs = search needs
-
-returns : tie.Need-returns
-returns c = search needs
-
 pub read-from-spec : {M : Type 1} → statement M
-read-from-spec = tie.close (tie.spec slice-aggregate-read-record read-record-requires returns)
+read-from-spec = tie.close (tie.spec slice-aggregate-read-record (λ c κs. search needs) (λ c. search needs))

@@ -7,27 +7,15 @@ use borrow.Author.Needs.{needs}
 use Rattle.records.proofs.write_into.Statement.{statement}
 use Rattle.records.proofs.write_into.Tie as tie
 
-slice-relend-prefix-write-record : tie.Need-slice-relend-prefix-write-record
-slice-relend-prefix-write-record c = search needs
-
 slice-aggregate-write-record : tie.Need-slice-aggregate-write-record
 slice-aggregate-write-record c = let inside : c .before .before .args .count ≤ length (c .before .before .args .bytes .now) = search needs in sym (length-take-le _ _ inside)
-
-write-record-requires : tie.Need-write-record-requires
-write-record-requires c κs = search needs
-
-same-length : tie.Need-same-length
-same-length c = search needs
-
-returns : tie.Need-returns
-returns c = search needs
 
 pub write-into-spec : {M : Type 1} → statement M
 write-into-spec =
     tie.close
     (tie.spec
-    slice-relend-prefix-write-record
+    (λ c. search needs)
     slice-aggregate-write-record
-    write-record-requires
-    same-length
-    returns)
+    (λ c κs. search needs)
+    (λ c. search needs)
+    (λ c. search needs))

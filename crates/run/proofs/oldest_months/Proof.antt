@@ -5,10 +5,10 @@ use Rattle.run.proofs.oldest_months.Statement.{statement}
 use Rattle.run.proofs.oldest_months.Tie as tie
 
 returns : tie.Need-returns
-returns c = thirteen-told _ (c .before .before .pre) (c .if1 .taken)
+returns c = thirteen-told (c .before .before .pre) (c .if1 .taken)
 
 returns-2 : tie.Need-returns-2
-returns-2 c = twelve-told _ (c .before .before .pre) (c .if1 .left)
+returns-2 c = twelve-told (c .before .before .pre) (c .if1 .left)
 
 pub oldest-months-spec : {M : Type 1} → statement M
 oldest-months-spec = tie.close (tie.spec (λ c. search needs) (λ c. search needs) returns returns-2)

@@ -1,72 +1,44 @@
 -- `run::open_run` meets its contract: a year that is refused gives a run of zeros, and any other the run of that one year.
-use mathlib.Core.Path.{_≡_, refl, sym, ap, _∙_}
+use mathlib.Core.Path.{_≡_}
 use native.Mathlib.Omega.{arith}
 use borrow.Author.Needs.{needs}
-use Rattle.numbers.specs.Answer.{refusalIn}
-use Rattle.asked.specs.Answers.{yearMeans}
-use Rattle.asked.specs.Asked.{rulesFor}
-use Rattle.asked.proofs.Covered.{covered-year-told}
+use Rattle.answers.specs.Answer.{given}
+use Rattle.answers.specs.Conditions.{asking}
+use Rattle.asked.specs.Asked.{yearAsked}
 use Rattle.asked.proofs.Numbers.{calendar-small}
-use Rattle.kept.specs.declared.Run.{Run}
-use Rattle.kept.specs.Runs.{runOf}
-use Rattle.run.specs.Answers.{runAnswer}
-use Rattle.run.proofs.Refusals.{open-given}
-use Rattle.run.proofs.Steps.{open-refused, Asked, asked-told}
+use Rattle.run.proofs.Steps.{open-asked, opened-room}
 use Rattle.run.proofs.open_run.Statement.{statement}
 use Rattle.run.proofs.open_run.Tie as tie
 
-asked-year-requires : tie.Need-asked-year-requires
-asked-year-requires c κs = search needs
-
-enum-known-asked : tie.Need-enum-known-asked
-enum-known-asked c = search needs
-
-enum-told : tie.Need-enum-told
-enum-told c = search needs
-
-year-refusal-requires : tie.Need-year-refusal-requires
-year-refusal-requires c κs = search needs
-
-empty-run-requires : tie.Need-empty-run-requires
-empty-run-requires c κs = search needs
-
 returns : tie.Need-returns
 returns c =
-    let told = c .before .before .enum-told .given in
-    let number : c .before .year-refusal .result ≡ told .0 .0 = c .before .year-refusal .ensures ∙ ap (λ a. refusalIn (yearMeans a)) (told .1) in
-    rw (number, c .empty-run .ensures) (sym (ap (runAnswer _) (open-refused _ _ (told .0 .0) (sym (c .before .before .before .before .asked-year .ensures) ∙ ap yearMeans (told .1)))))
+    let e = c .before .before in
+    rw (open-asked, ← e .before .before .asked-year .ensures, c .before .year-refusal .ensures, e .enum-told .given .1, c .empty-run .ensures)
 
 -- the year that was asked for, once it is known
-found : (c : tie.After-known-told) → Asked (c .before .before .before .before .args .calendar) (c .before .before .before .before .args .year) (c .before .asked .given .0 .1 .0)
-found c = asked-told _ _ _ _ (sym (c .before .before .before .asked-year .ensures) ∙ ap yearMeans (c .before .asked .given .1))
+year-asked : (c : tie.After-known-told) → let at = c .before .before .before .before .args in
+    yearAsked (at .calendar) (at .year) ≡ given (c .before .asked .given .0 .0, c .before .asked .given .0 .1 .0)
+year-asked c = rw (← c .before .before .before .asked-year .ensures, c .before .asked .given .1)
 
 cast-run-of : tie.Need-cast-run-of
-cast-run-of c = omega (arith, calendar-small (c .before .before .before .before .args .calendar) (found c .known))
-
-run-of-requires : tie.Need-run-of-requires
-run-of-requires c κs =
-    let at = c .before .before .before .before .args in
-    let covered = covered-year-told (rulesFor (at .calendar)) (at .year) (found c .covered) in
-    let year = found c .year in
-    record { known = found c .known; from = omega (arith, covered .from, year); to = omega (arith, covered .to, year); at-most-14 = omega arith }
+cast-run-of c =
+    let room = opened-room _ _ _ _ (year-asked c) in
+    omega (arith, calendar-small (c .before .before .before .before .args .calendar) (room .known))
 
 returns-2 : tie.Need-returns-2
-returns-2 c =
-    let at = c .before .before .before .before .before .args in
-    let asked = found (c .before) in
-    ap (λ (x : Run). record { refusal = 0; run = x }) (c .run-of .ensures ∙ ap (λ y. runOf (at .calendar) y 1) (asked .year))
-    ∙ sym (ap (runAnswer _) (open-given (at .calendar) (at .year) (runOf (at .calendar) (at .year) 1) .if (asked .known, (asked .covered, refl))))
+unfolding asking
+returns-2 c = rw (open-asked, year-asked (c .before), c .run-of .ensures)
 
 pub open-run-spec : {M : Type 1} → statement M
 open-run-spec =
     tie.close
     (tie.spec
-    asked-year-requires
-    enum-known-asked
-    enum-told
-    year-refusal-requires
-    empty-run-requires
+    (λ c κs. search needs)
+    (λ c. search needs)
+    (λ c. search needs)
+    (λ c κs. search needs)
+    (λ c κs. search needs)
     returns
     cast-run-of
-    run-of-requires
+    (λ c κs. opened-room _ _ _ _ (year-asked c))
     returns-2)

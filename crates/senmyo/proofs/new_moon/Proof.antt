@@ -1,12 +1,9 @@
 -- `senmyo::new_moon` meets its contract: the mean new moon, corrected, is a natural.
-use mathlib.Core.Path.{_≡_, ap}
+use mathlib.Core.Path.{_≡_, ap, _∙_}
 use native.Mathlib.Omega.{arith}
-use mir.Syntax.{w64}
-use mir.Val.{toZ, ofZ}
-use mir.Facts.{toZ-ofZ}
 use borrow.Author.Needs.{needs}
 use Rattle.numbers.specs.Sign.{whole}
-use Rattle.numbers.proofs.Size.{small-fits}
+use Rattle.numbers.proofs.Size.{word, told-word}
 use Rattle.units.specs.Units.{fen, fenToByo}
 use Rattle.means.specs.Means.{meanNewMoon}
 use Rattle.senmyo.specs.Phases.{corrections, newMoon}
@@ -21,8 +18,11 @@ correction-requires : tie.Need-correction-requires
 correction-requires c κs = rw (c .fen-to-byo .ensures, c .before .mean-new-moon .ensures) (omega arith)
 
 -- the correction is read back from its word as it is
-back : (c : tie.After-correction) → toZ w64 (ofZ w64 (c .correction .result)) ≡ corrections (fenToByo (meanNewMoon (c .before .before .before .args .number)))
-back c = rw (c .correction .ensures, c .before .fen-to-byo .ensures, c .before .before .mean-new-moon .ensures) (toZ-ofZ (small-fits (corrections-small _) (omega arith)))
+back : (c : tie.After-correction) → word (c .correction .result) ≡ corrections (fenToByo (meanNewMoon (c .before .before .before .args .number)))
+back c =
+    let f = c .before in
+    let told = c .correction .ensures ∙ ap corrections (f .fen-to-byo .ensures ∙ ap fenToByo (f .before .mean-new-moon .ensures)) in
+    told-word told (corrections-small _) (omega arith) .same
 
 moved-requires : tie.Need-moved-requires
 moved-requires c κs =
@@ -41,9 +41,4 @@ returns c = ap fen (ap whole (rw (back (c .before), c .before .before .before .m
 pub new-moon-spec : {M : Type 1} → statement M
 new-moon-spec =
     tie.close
-    (tie.spec
-    (λ c κs. search needs)
-    fen-to-byo-requires
-    correction-requires
-    moved-requires
-    returns)
+    (tie.spec (λ c κs. search needs) fen-to-byo-requires correction-requires moved-requires returns)

@@ -5,9 +5,6 @@ use Rattle.senmyo.specs.FullMoons.{nodePlaceAt}
 use Rattle.senmyo.proofs.node.Statement.{statement}
 use Rattle.senmyo.proofs.node.Tie as tie
 
-node-place-requires : tie.Need-node-place-requires
-node-place-requires c κs = search needs
-
 node-of-requires : tie.Need-node-of-requires
 unfolding nodePlaceAt
 node-of-requires c κs = rw (c .node-place .ensures) (place-within _ _ _)
@@ -16,4 +13,4 @@ returns : tie.Need-returns
 returns c = rw (c .before .node-place .ensures) at (c .node-of .ensures)
 
 pub node-spec : {M : Type 1} → statement M
-node-spec = tie.close (tie.spec node-place-requires node-of-requires returns)
+node-spec = tie.close (tie.spec (λ c κs. search needs) node-of-requires returns)

@@ -27,39 +27,25 @@ loop-holds : tie.Need-loop-holds Inv-loop μ-loop
 unfolding placesNumbers
 loop-holds c = (omega arith, refl)
 
-mul-put-month : tie.Need-mul-put-month Inv-loop μ-loop
-mul-put-month c = omega arith
-
-add-put-month : tie.Need-add-put-month Inv-loop μ-loop
-add-put-month c = omega arith
-
-mul-put-month-2 : tie.Need-mul-put-month-2 Inv-loop μ-loop
-mul-put-month-2 c = omega arith
-
-array-copy-out-put-month : tie.Need-array-copy-out-put-month Inv-loop μ-loop
-array-copy-out-put-month c = omega arith
-
 put-month-requires : tie.Need-put-month-requires Inv-loop μ-loop
 put-month-requires c κs =
     let room : 55 ≤ length (c .before .before .before .before .before .args .out .now) = search needs in
     omega (arith, room, as-long (c .before .before .before))
 
-add-place : tie.Need-add-place Inv-loop μ-loop
-add-place c = omega arith
-
-loop-less : tie.Need-loop-less Inv-loop μ-loop
-loop-less c = omega arith
-
 loop-again : tie.Need-loop-again Inv-loop μ-loop
 loop-again c =
-    let loop = c .before .before .before .before .before .before .loop in
-    (omega arith, next-place _ _ _ (c .before .before .before .before .before .before .before .before .args .t2) (loop .place) _ (omega (arith, thirteen (c .before .before .before .before .before .before .before .before))) refl (loop .inv .1) (c .before .before .put-month .ensures))
+    let a = c .before .before .before .before .before .before in
+    let start = a .before .before in
+    (omega arith, next-place _ _ _ (start .args .t2) (a .loop .place) _ (omega (arith, thirteen start)) refl (a .loop .inv .1) (c .before .before .put-month .ensures))
 
 same-length : tie.Need-same-length Inv-loop μ-loop
 same-length c = as-long (c .before)
 
 returns : tie.Need-returns Inv-loop μ-loop
-returns c = c .before .loop .inv .1 ∙ ap (λ ms. sets (c .before .before .before .args .out .now) 3 (placesNumbers ms)) (take-all (c .before .loop .place) (c .before .before .before .args .t2) (omega (arith, thirteen (c .before .before .before))))
+returns c =
+    let start = c .before .before .before in
+    let all = take-all (c .before .loop .place) (start .args .t2) (omega (arith, thirteen start)) in
+    c .before .loop .inv .1 ∙ ap (λ ms. sets (start .args .out .now) 3 (placesNumbers ms)) all
 
 pub put-places-spec : {M : Type 1} → statement M
 put-places-spec =
@@ -68,13 +54,13 @@ put-places-spec =
     Inv-loop
     μ-loop
     loop-holds
-    mul-put-month
-    add-put-month
-    mul-put-month-2
-    array-copy-out-put-month
+    (λ c. omega arith)
+    (λ c. omega arith)
+    (λ c. omega arith)
+    (λ c. omega arith)
     put-month-requires
-    add-place
-    loop-less
+    (λ c. omega arith)
+    (λ c. omega arith)
     loop-again
     same-length
     returns)

@@ -6,9 +6,6 @@ use borrow.Author.Needs.{needs}
 use Rattle.sun.proofs.true_term.Statement.{statement}
 use Rattle.sun.proofs.true_term.Tie as tie
 
-row-of-requires : tie.Need-row-of-requires
-row-of-requires c κs = search needs
-
 returns : tie.Need-returns
 returns c =
     let row = c .before .row-of in
@@ -18,4 +15,4 @@ returns c =
     rw (toZ-ofZ rate, toZ-ofZ first, toZ-ofZ sum, row .ensures)
 
 pub true-term-spec : {M : Type 1} → statement M
-true-term-spec = tie.close (tie.spec row-of-requires returns)
+true-term-spec = tie.close (tie.spec (λ c κs. search needs) returns)

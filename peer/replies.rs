@@ -4,7 +4,7 @@ use crate::lines;
 use crate::months;
 use crate::refusal::Refusal;
 
-/// The inputs that the program `answers` tries.
+/// The inputs that the program `replies` tries.
 pub const INPUTS: [&[u8]; 26] = [
     b"1 822\n",
     b"001 000001684\n",

@@ -1,15 +1,9 @@
 -- What a call answers: the thing asked for, or the number of a refusal (01, "Refusal numbers").
-use mathlib.Core.Bool.{Bool, true, false}
 use Prim.Native.Nat.{ℕ}
 
 pub data Answer (A : Type 0) : Type 0 where
   given : A → Answer A
   refused : ℕ → Answer A
-
--- a condition and the refusal of an input that fails it: of several, the first that fails names the refusal
-abbrev pub need : {A : Type 0} → Bool → ℕ → Answer A → Answer A
-need true refusal answer = answer
-need false refusal answer = refused refusal
 
 -- a step that follows an answer: a refusal goes on as it came
 abbrev pub then : {A B : Type 0} → Answer A → (A → Answer B) → Answer B
