@@ -1,13 +1,25 @@
 -- `sieveflicker::sf_date` meets its contract: a date is told as one number, and a refusal's number is passed on.
+use mathlib.Core.Path.{sym, ap, _∙_}
+use Prim.Native.Nat.{ℕ}
 use borrow.Author.Needs.{needs}
+use Rattle.answers.specs.Answer.{Answer, given, then}
+use Rattle.calendar.specs.declared.Date.{Date}
+use Rattle.calendar.specs.Answers.{dateMeans}
+use Rattle.kept.specs.Runs.{dateNumber}
+use Rattle.sieveflicker.specs.Numbers.{numberIn}
 use Rattle.sieveflicker.proofs.sf_date.Statement.{statement}
 use Rattle.sieveflicker.proofs.sf_date.Tie as tie
 
+abbrev told : Answer Date → ℕ
+told a = numberIn (then a (λ t. given (dateNumber t)))
+
 returns : tie.Need-returns
-returns c = rw (← c .before .before .before .before .date-of .ensures, c .before .before .date .given .1, c .date-number .ensures)
+returns c =
+    let date = c .before .before in
+    c .date-number .ensures ∙ sym (ap told (sym (date .before .before .date-of .ensures) ∙ ap dateMeans (date .date .given .1)))
 
 returns-2 : tie.Need-returns-2
-returns-2 c = rw (← c .before .before .before .date-of .ensures, c .before .number .given .1)
+returns-2 c = sym (ap told (sym (c .before .before .before .date-of .ensures) ∙ ap dateMeans (c .before .number .given .1)))
 
 pub sf-date-spec : {M : Type 1} → statement M
 sf-date-spec =
