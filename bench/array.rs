@@ -1,11 +1,15 @@
-//! A plain array of all months of each calendar, in order, to be searched.
+//! A plain array of all months of each calendar, in order, to be searched;
+//! their moons and eclipses lie in arrays of their own, in the same order.
 
-use crate::questions::{Date, Day, Year};
+use crate::questions::{Date, Day, MonthName, Year};
 use crate::runs::Run;
-use crate::sides::{date_number, put_months, Side};
-use crate::sieveflicker::raw::{RECORD_BYTES, RECORD_NUMBERS, YEAR_NUMBERS};
+use crate::sides::{date_number, eclipse_numbers, put_months, Side};
+use crate::sieveflicker::raw::{
+    ECLIPSE_NUMBERS, MOONS_NUMBERS, RECORD_BYTES, RECORD_NUMBERS, YEAR_NUMBERS,
+};
 use peer::calendar::Calendar;
 use peer::months::covered_years;
+use peer::{eclipse, instants};
 
 const LONG_MONTH: u32 = 30;
 
@@ -34,6 +38,9 @@ impl Month {
 pub struct Array {
     senmyo: Vec<Month>,
     genka: Vec<Month>,
+    senmyo_moons: Vec<[f64; MOONS_NUMBERS]>,
+    genka_moons: Vec<[f64; MOONS_NUMBERS]>,
+    eclipses: Vec<[u32; ECLIPSE_NUMBERS]>,
 }
 
 impl Array {
@@ -41,6 +48,9 @@ impl Array {
         Array {
             senmyo: all_months(Calendar::Senmyo),
             genka: all_months(Calendar::Genka),
+            senmyo_moons: all_moons(Calendar::Senmyo),
+            genka_moons: all_moons(Calendar::Genka),
+            eclipses: all_eclipses(),
         }
     }
 
@@ -74,14 +84,30 @@ impl Array {
         })
     }
 
+    fn place_of(&self, calendar: u32, name: (u32, u32, bool)) -> Option<usize> {
+        let months = self.months(calendar);
+        months.binary_search_by_key(&name, Month::name).ok()
+    }
+
     fn day_of(&self, date: Date) -> Option<u32> {
-        let months = self.months(date.calendar);
-        let name = (date.year, date.month, date.leap);
-        let place = months.binary_search_by_key(&name, Month::name).ok()?;
-        let month = &months[place];
+        let place = self.place_of(date.calendar, (date.year, date.month, date.leap))?;
+        let month = &self.months(date.calendar)[place];
         (1..=month.length)
             .contains(&date.day)
             .then(|| month.first_day + date.day - 1)
+    }
+
+    fn eclipse_of(&self, month: MonthName) -> Option<[u32; ECLIPSE_NUMBERS]> {
+        let place = self.place_of(month.calendar, (month.year, month.month, month.leap))?;
+        Some(self.eclipses[place])
+    }
+
+    fn moons_of(&self, month: MonthName) -> Option<[f64; MOONS_NUMBERS]> {
+        let place = self.place_of(month.calendar, (month.year, month.month, month.leap))?;
+        Some(match month.calendar {
+            1 => self.senmyo_moons[place],
+            _ => self.genka_moons[place],
+        })
     }
 
     pub fn extended(&self, run: &Run) -> Run {
@@ -134,6 +160,26 @@ fn all_months(calendar: Calendar) -> Vec<Month> {
         }));
     }
     months
+}
+
+/// What is worked out of each month's new moon, in order.
+fn of_all_months<T>(calendar: Calendar, work_out: impl Fn(i64) -> T) -> Vec<T> {
+    let years = covered_years(calendar);
+    let months = years.iter().flat_map(|year| &year.months);
+    months.map(|month| work_out(month.new_moon)).collect()
+}
+
+fn all_moons(calendar: Calendar) -> Vec<[f64; MOONS_NUMBERS]> {
+    of_all_months(calendar, |new_moon| {
+        let moons = instants::moons(calendar, new_moon);
+        [moons.new, moons.full]
+    })
+}
+
+fn all_eclipses() -> Vec<[u32; ECLIPSE_NUMBERS]> {
+    of_all_months(Calendar::Senmyo, |new_moon| {
+        eclipse_numbers(&eclipse::of_month(new_moon))
+    })
 }
 
 impl Side for Array {
@@ -192,6 +238,18 @@ impl Side for Array {
         };
         if self.record_of(year).as_ref() == Some(bytes) {
             *numbers = read;
+        }
+    }
+
+    fn eclipse(&self, month: MonthName, numbers: &mut [u32; ECLIPSE_NUMBERS]) {
+        if let Some(eclipse) = self.eclipse_of(month) {
+            *numbers = eclipse;
+        }
+    }
+
+    fn moons(&self, month: MonthName, dates: &mut [f64; MOONS_NUMBERS]) {
+        if let Some(moons) = self.moons_of(month) {
+            *dates = moons;
         }
     }
 }

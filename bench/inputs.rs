@@ -1,7 +1,7 @@
 //! The questions of a run: drawn at random, and the same in every run.
 
 use crate::array::Array;
-use crate::questions::{Changed, Date, Day, DayInRun, Record, Year};
+use crate::questions::{Changed, Date, Day, DayInRun, MonthName, Record, Year};
 use crate::runs::{Change, Run};
 use peer::calendar::{self, Calendar};
 use peer::months;
@@ -80,6 +80,21 @@ pub fn years(random: &mut Random) -> Vec<Year> {
         }));
     }
     random.draw(&years)
+}
+
+pub fn months_of(random: &mut Random, calendars: &[Calendar]) -> Vec<MonthName> {
+    let mut names = Vec::new();
+    for &calendar in calendars {
+        for year in months::covered_years(calendar) {
+            names.extend(year.months.iter().map(|month| MonthName {
+                calendar: calendar.number() as u32,
+                year: year.number as u32,
+                month: month.number as u32,
+                leap: month.leap,
+            }));
+        }
+    }
+    random.draw(&names)
 }
 
 /// A run of so many years from each covered year that so many and one more

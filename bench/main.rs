@@ -14,7 +14,8 @@ mod sieveflicker;
 use array::Array;
 use inputs::Random;
 use measure::compare;
-use questions::{Day, MonthsOf, RecordOf};
+use peer::calendar::{self, Calendar};
+use questions::{Day, EclipseOf, MonthsOf, MoonsOf, RecordOf};
 use runs::Change;
 use sides::{Library, Peer, Sides};
 
@@ -30,6 +31,7 @@ fn main() {
     compare_days(&sides, &days);
     compare_dates(&sides, &days);
     compare_years(&sides, &mut random);
+    compare_moons(&sides, &mut random);
     compare_runs(&sides, &mut random);
 }
 
@@ -54,6 +56,15 @@ fn compare_years(sides: &Sides, random: &mut Random) {
     compare(sides, "a year's months", &months_of);
     compare(sides, "a record written", &record_of);
     compare(sides, "a record read", &records);
+}
+
+fn compare_moons(sides: &Sides, random: &mut Random) {
+    let of_senmyo = inputs::months_of(random, &[Calendar::Senmyo]);
+    let eclipses: Vec<EclipseOf> = of_senmyo.into_iter().map(EclipseOf).collect();
+    compare(sides, "an eclipse", &eclipses);
+    let of_both = inputs::months_of(random, &calendar::ALL);
+    let moons: Vec<MoonsOf> = of_both.into_iter().map(MoonsOf).collect();
+    compare(sides, "both moons of a month", &moons);
 }
 
 fn compare_runs(sides: &Sides, random: &mut Random) {

@@ -3,7 +3,9 @@
 
 use crate::runs::{Change, Run};
 use crate::sides::Side;
-use crate::sieveflicker::raw::{RECORD_BYTES, RECORD_NUMBERS, YEAR_NUMBERS};
+use crate::sieveflicker::raw::{
+    ECLIPSE_NUMBERS, MOONS_NUMBERS, RECORD_BYTES, RECORD_NUMBERS, YEAR_NUMBERS,
+};
 
 pub trait Question {
     fn put_to<S: Side>(&self, side: &S) -> u64;
@@ -38,6 +40,18 @@ pub struct RecordOf(pub Year);
 
 /// Its numbers are asked for.
 pub struct Record(pub [u8; RECORD_BYTES]);
+
+#[derive(Clone, Copy)]
+pub struct MonthName {
+    pub calendar: u32,
+    pub year: u32,
+    pub month: u32,
+    pub leap: bool,
+}
+
+pub struct EclipseOf(pub MonthName);
+
+pub struct MoonsOf(pub MonthName);
 
 /// The date of a day of the run is asked for.
 pub struct DayInRun<'a> {
@@ -83,6 +97,23 @@ impl Question for Record {
         let mut numbers = [0; RECORD_NUMBERS];
         side.read_record(&self.0, &mut numbers);
         numbers.into_iter().map(u64::from).sum()
+    }
+}
+
+impl Question for EclipseOf {
+    fn put_to<S: Side>(&self, side: &S) -> u64 {
+        let mut numbers = [0; ECLIPSE_NUMBERS];
+        side.eclipse(self.0, &mut numbers);
+        numbers.into_iter().map(u64::from).sum()
+    }
+}
+
+impl Question for MoonsOf {
+    fn put_to<S: Side>(&self, side: &S) -> u64 {
+        let mut dates = [0.0; MOONS_NUMBERS];
+        side.moons(self.0, &mut dates);
+        let bits = dates.into_iter().map(f64::to_bits);
+        bits.fold(0, u64::wrapping_add)
     }
 }
 

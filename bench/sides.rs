@@ -3,10 +3,12 @@
 //! the library is asked for a day or a date, as the small number of its refusal.
 
 use crate::array::Array;
-use crate::questions::{Date, Day, Year};
+use crate::questions::{Date, Day, MonthName, Year};
 use crate::runs::Runs;
-use crate::sieveflicker::raw::{self, RECORD_BYTES, RECORD_NUMBERS, YEAR_NUMBERS};
-use peer::{dates, months, record};
+use crate::sieveflicker::raw::{
+    self, ECLIPSE_NUMBERS, MOONS_NUMBERS, RECORD_BYTES, RECORD_NUMBERS, YEAR_NUMBERS,
+};
+use peer::{dates, eclipse, instants, months, record};
 
 pub trait Side: Runs {
     /// As year * 10000 + month * 100 + day, and 100000000 more in a leap month.
@@ -15,6 +17,9 @@ pub trait Side: Runs {
     fn year(&self, year: Year, numbers: &mut [u32; YEAR_NUMBERS]);
     fn write_record(&self, year: Year, bytes: &mut [u8; RECORD_BYTES]);
     fn read_record(&self, bytes: &[u8; RECORD_BYTES], numbers: &mut [u32; RECORD_NUMBERS]);
+    fn eclipse(&self, month: MonthName, numbers: &mut [u32; ECLIPSE_NUMBERS]);
+    /// The new moon and the full moon.
+    fn moons(&self, month: MonthName, dates: &mut [f64; MOONS_NUMBERS]);
 }
 
 pub struct Sides {
@@ -50,6 +55,26 @@ impl Side for Library {
 
     fn read_record(&self, bytes: &[u8; RECORD_BYTES], numbers: &mut [u32; RECORD_NUMBERS]) {
         raw::read_record(bytes, numbers);
+    }
+
+    fn eclipse(&self, month: MonthName, numbers: &mut [u32; ECLIPSE_NUMBERS]) {
+        raw::eclipse(
+            month.calendar.into(),
+            month.year.into(),
+            month.month.into(),
+            month.leap.into(),
+            numbers,
+        );
+    }
+
+    fn moons(&self, month: MonthName, dates: &mut [f64; MOONS_NUMBERS]) {
+        raw::moons(
+            month.calendar.into(),
+            month.year.into(),
+            month.month.into(),
+            month.leap.into(),
+            dates,
+        );
     }
 }
 
@@ -88,6 +113,30 @@ impl Side for Peer {
             *numbers = read.map(|number| number as u32);
         }
     }
+
+    fn eclipse(&self, month: MonthName, numbers: &mut [u32; ECLIPSE_NUMBERS]) {
+        let asked = eclipse::asked(
+            month.calendar.into(),
+            month.year.into(),
+            month.month.into(),
+            month.leap,
+        );
+        if let Ok(eclipse) = asked {
+            *numbers = eclipse_numbers(&eclipse);
+        }
+    }
+
+    fn moons(&self, month: MonthName, dates: &mut [f64; MOONS_NUMBERS]) {
+        let asked = instants::asked(
+            month.calendar.into(),
+            month.year.into(),
+            month.month.into(),
+            month.leap,
+        );
+        if let Ok(moons) = asked {
+            *dates = [moons.new, moons.full];
+        }
+    }
 }
 
 fn month_numbers(month: &months::Month) -> [u32; 4] {
@@ -97,6 +146,10 @@ fn month_numbers(month: &months::Month) -> [u32; 4] {
         month.length as u32,
         month.first_day as u32,
     ]
+}
+
+pub fn eclipse_numbers(eclipse: &eclipse::Eclipse) -> [u32; ECLIPSE_NUMBERS] {
+    eclipse.numbers().map(|number| number as u32)
 }
 
 pub fn date_number(year: u64, month: u64, leap: bool, day: u64) -> u64 {

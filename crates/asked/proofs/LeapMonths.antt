@@ -8,7 +8,7 @@ use Rattle.numbers.specs.Spans.{Holds}
 use Rattle.answers.specs.Answer.{given, refused}
 use Rattle.numbers.proofs.Spans.{span-holds}
 use Rattle.months.specs.declared.Calendar.{Calendar}
-use Rattle.months.specs.Rules.{Rules, rulesOf}
+use Rattle.months.specs.Rules.{Rules, mid, rulesOf}
 use Rattle.months.specs.Months.{monthWith, begun, isLeap}
 use Rattle.months.proofs.Calendars.{steady}
 use Rattle.months.proofs.CoveredYears.{edges}
@@ -30,7 +30,7 @@ module _ (c : Calendar) (y : ℕ) (covered : CoveredYear (rulesOf c) y) (m : ℕ
   next = monthWith rules (rules .rainWater y + m)
 
   abbrev term : ℕ
-  term = rules .mid (rules .rainWater y + (m - 1))
+  term = mid rules (rules .rainWater y + (m - 1))
 
   has-term : Holds (rules .start) regular term
   has-term = span-holds (rules .start) (steady c .months-grow) term

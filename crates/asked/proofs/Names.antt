@@ -6,7 +6,7 @@ use native.Mathlib.Omega.{arith, by-contra}
 use lib.Dec.{leb}
 use borrow.Author.Tests.{le-leb, leb-true}
 use Rattle.numbers.proofs.Spans.{span-holds, span-is}
-use Rattle.months.specs.Rules.{Rules}
+use Rattle.months.specs.Rules.{Rules, mid}
 use Rattle.months.specs.Months.{monthWith, firstMonth, isLeap}
 use Rattle.months.specs.Year.{OfYear, Numbered, Twelve, Thirteen, TwelveOrThirteen, twelve, thirteen}
 use Rattle.months.proofs.Order.{by-order}
@@ -26,7 +26,7 @@ module _ (r : Rules) (s : Steady r) (y : ℕ) where
 
   -- .. is known by having it
   with-term : (i k : ℕ) → Numbered r y i k → with i ≡ k
-  with-term i k n = span-is (r .start) (s .months-grow) k (r .mid (r .rainWater y + i)) (n .holds)
+  with-term i k n = span-is (r .start) (s .months-grow) k (mid r (r .rainWater y + i)) (n .holds)
 
   by-term : (i k : ℕ) → Numbered r y i k → OfYear r y k → Named r y (i + 1) false (with i)
   by-term i k n h = rw (with-term i k n) (record { of-year = h; number = n .number; is-leap = n .not-leap })

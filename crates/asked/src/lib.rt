@@ -62,11 +62,11 @@ pub fn asked_year(calendar: u64, year: u64) -> YearAsked
     let CalendarAsked::Known(known) = asked else {
         return YearAsked::Refused(calendar_refusal(asked));
     };
-    let years = months::covered_years(known);
-    if year < years.first as u64 {
+    let numbers = months::numbers_of(known);
+    if year < numbers.first_year as u64 {
         return YearAsked::Refused(2);
     }
-    if (years.last as u64) < year {
+    if (numbers.last_year as u64) < year {
         return YearAsked::Refused(2);
     }
     YearAsked::Covered(known, year as u16)

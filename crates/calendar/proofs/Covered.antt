@@ -7,27 +7,28 @@ use lib.Dec.{leb, ltb}
 use borrow.Author.Tests.{le-leb, lt-ltb, leb-true, ltb-true}
 use Rattle.numbers.proofs.Spans.{Together, together}
 use Rattle.months.specs.declared.Calendar.{Calendar}
-use Rattle.months.specs.Rules.{Rules, rulesOf}
+use Rattle.months.specs.Rules.{Rules, dayNumber, rulesOf}
 use Rattle.months.specs.Months.{monthOf, begun, firstMonth, monthCount, firstDay, nextFirstDay}
 use Rattle.months.specs.Year.{TwelveOrThirteen, twelve, thirteen, DemandedYear}
 use Rattle.months.proofs.CoveredYears.{covered-year, edges, covering, covering-day}
 use Rattle.asked.specs.Room.{CoveredYear, CoveredMonth}
-use Rattle.calendar.specs.Dates.{coveredDays, isCoveredDay}
+use Rattle.calendar.specs.Dates.{isCoveredDay}
 use Rattle.calendar.specs.Room.{CoveredDay}
 
 pub covered-day-told : (c : Calendar) (n : ℕ) → isCoveredDay (rulesOf c) n ≡ true → CoveredDay (rulesOf c) (n + rulesOf c .dayZero)
 covered-day-told c n h =
     let r = rulesOf c in
-    let first = coveredDays r .first in
-    let after = coveredDays r .after in
+    let first = dayNumber r (firstDay r (r .firstYear)) in
+    let after = dayNumber r (nextFirstDay r (r .lastYear)) in
     let (low, high) = and-eq-true-iff (leb first n) (ltb n after) .0 h in
     record { from = omega (arith, leb-true first n low); to = omega (arith, ltb-true n after high) }
 
 pub covered-day-tested : (c : Calendar) (n : ℕ) → CoveredDay (rulesOf c) (n + rulesOf c .dayZero) → isCoveredDay (rulesOf c) n ≡ true
 covered-day-tested c n h =
     let r = rulesOf c in
-    rw
-    (le-leb (coveredDays r .first) n (omega (arith, h .from)), lt-ltb n (coveredDays r .after) (omega (arith, h .to, edges c .first-day)))
+    let first = dayNumber r (firstDay r (r .firstYear)) in
+    let after = dayNumber r (nextFirstDay r (r .lastYear)) in
+    rw (le-leb first n (omega (arith, h .from)), lt-ltb n after (omega (arith, h .to, edges c .first-day)))
 
 -- the months and days of a covered year
 pub record YearRoom (r : Rules) (y : ℕ) : Type 0 where

@@ -2,22 +2,19 @@
 use mathlib.Core.Path.{_≡_, refl, ap, fun-ext}
 use mathlib.Core.Bool.{true, false}
 use mathlib.Core.List.{[], _∷_}
-use Prim.Native.Nat.{ℕ, _+_, _-_, _*_, _/_, _^_}
-use native.Mathlib.Omega.{arith}
+use Prim.Native.Nat.{ℕ, _+_, _-_, _^_}
 use lib.Dec.{ltb}
 use Rattle.answers.specs.Answer.{given, refused}
 use Rattle.answers.specs.Conditions.{asking}
-use Rattle.numbers.specs.Spans.{Holds}
 use Rattle.numbers.specs.Places.{places}
-use Rattle.months.specs.Rules.{Rules, senmyo, genka, rulesOf, dayNumber}
+use Rattle.cycles.proofs.CycleLaws.{lastTold, last-holds}
+use Rattle.months.specs.Rules.{Rules, mid, senmyo, genka, rulesOf, dayNumber}
 use Rattle.months.specs.Months.{monthLength, termNumber, isLeap}
 use Rattle.months.proofs.Steady.{Steady}
 use Rattle.months.proofs.Terms.{name-told}
 use Rattle.months.proofs.Calendars.{senmyo-steady, genka-steady}
 use Rattle.months.proofs.Figures.{month-with, first-1522, first-1523, first-643, first-644, senmyo-opens, senmyo-ends, genka-opens, genka-ends}
-use Rattle.means.specs.Means.{midTerm}
 use Rattle.senmyo.proofs.Worked.{dayAt}
-use Rattle.units.specs.Units.{dayByo}
 use Rattle.calendar.specs.declared.Month.{Month}
 use Rattle.calendar.specs.Dates.{dayOf, dateOf}
 use Rattle.calendar.specs.Years.{listed, noMonth, leapNumber, yearIn, yearOf}
@@ -25,26 +22,26 @@ use Rattle.calendar.proofs.OneDate.{date-of-day-of}
 
 -- ---- a year's months, worked out
 
--- month k with the last mid-term by its end found by a function
-worked : Rules → (ℕ → ℕ) → ℕ → Month
-worked r term k =
-    let j : ℕ = term (r .start (k + 1) - 1) in
-    record { number = termNumber r j; leap = ltb (r .mid j) (r .start k); length = monthLength r k; «first_day» = dayNumber r (r .start k) }
+-- month k with the last mid-term by its end told by a quotient
+worked : Rules → ℕ → Month
+worked r k =
+    let j : ℕ = lastTold (r .terms) (r .start (k + 1) - 1) in
+    record { number = termNumber r j; leap = ltb (mid r j) (r .start k); length = monthLength r k; «first_day» = dayNumber r (r .start k) }
 
-module _ (r : Rules) (s : Steady r) (term : ℕ → ℕ) (last : (d : ℕ) → Holds (r .mid) (term d) d) where
-  listed-worked : (k : ℕ) → listed r k ≡ worked r term k
+module _ (r : Rules) (s : Steady r) where
+  listed-worked : (k : ℕ) → listed r k ≡ worked r k
   unfolding worked
   listed-worked k =
-      let (number, leap) = name-told r s k (term (r .start (k + 1) - 1)) (last _) in
+      let (number, leap) = name-told r s k _ (last-holds (r .terms) (s .apart) _) in
       rw (number, leap)
 
-  all-worked : (λ k. listed r k) ≡ worked r term
+  all-worked : (λ k. listed r k) ≡ worked r
   all-worked = fun-ext listed-worked
 
-  places-worked : (k count n : ℕ) → places noMonth (listed r) k count n ≡ places noMonth (worked r term) k count n
+  places-worked : (k count n : ℕ) → places noMonth (listed r) k count n ≡ places noMonth (worked r) k count n
   places-worked k count n = ap (λ month. places noMonth month k count n) all-worked
 
-  leap-worked : (k count : ℕ) → leapNumber (listed r) k count ≡ leapNumber (worked r term) k count
+  leap-worked : (k count : ℕ) → leapNumber (listed r) k count ≡ leapNumber (worked r) k count
   leap-worked k count = ap (λ month. leapNumber month k count) all-worked
 
 abbrev month : ℕ → ℕ → ℕ → Month
@@ -52,21 +49,6 @@ month number length first = record { number = number; leap = false; length = len
 
 abbrev leapMonth : ℕ → ℕ → ℕ → Month
 leapMonth number length first = record { number = number; leap = true; length = length; «first_day» = first }
-
--- the last mid-term by the end of a day
-senmyoTerm : ℕ → ℕ
-senmyoTerm d = (dayByo * (d + 1) - 1) / midTerm 1 .0
-
-senmyo-term : (d : ℕ) → Holds (senmyo .mid) (senmyoTerm d) d
-unfolding senmyoTerm
-senmyo-term d = omega arith
-
-genkaTerm : ℕ → ℕ
-genkaTerm d = (7296 * (d + 1) - 1) / 222070
-
-genka-term : (d : ℕ) → Holds (genka .mid) (genkaTerm d) d
-unfolding genkaTerm
-genka-term d = omega arith
 
 -- 1522, as the program prints it
 pub months-1522 : yearOf 1 1522 ≡
@@ -90,10 +72,9 @@ pub months-1522 : yearOf 1 1522 ≡
           month 12 30 2277320 ∷
           noMonth ∷ [];
     })
-unfolding asking yearOf rulesOf yearIn places leapNumber worked senmyoTerm dayAt
+unfolding asking yearOf rulesOf yearIn places leapNumber worked dayAt
 months-1522 =
-    rw
-    (first-1522, first-1523, places-worked senmyo senmyo-steady senmyoTerm senmyo-term 87454578 12 13, leap-worked senmyo senmyo-steady senmyoTerm senmyo-term 87454578 12)
+    rw (first-1522, first-1523, places-worked senmyo senmyo-steady 87454578 12 13, leap-worked senmyo senmyo-steady 87454578 12)
 
 -- 643: 383 days, 13 months, leap 7
 pub months-643 : yearOf 2 643 ≡
@@ -117,10 +98,9 @@ pub months-643 : yearOf 2 643 ≡
           month 11 30 1956263 ∷
           month 12 29 1956293 ∷ [];
     })
-unfolding asking yearOf rulesOf yearIn places leapNumber worked genkaTerm
+unfolding asking yearOf rulesOf yearIn places leapNumber worked
 months-643 =
-    rw
-    (first-643, first-644, places-worked genka genka-steady genkaTerm genka-term 73010 13 13, leap-worked genka genka-steady genkaTerm genka-term 73010 13)
+    rw (first-643, first-644, places-worked genka genka-steady 73010 13 13, leap-worked genka genka-steady 73010 13)
 
 -- ---- dates and days
 
@@ -134,9 +114,9 @@ date-643 = date-of-day-of 2 643 5 false 16 1956072 day-643
 
 -- the last day of its leap month
 pub leap-643 : dayOf 2 643 7 true 30 ≡ given 1956174
-unfolding asking dayOf rulesOf worked genkaTerm
+unfolding asking dayOf rulesOf worked
 leap-643 =
-    let is-leap : isLeap genka 73017 ≡ true = ap (λ (m : Month). m .leap) (listed-worked genka genka-steady genkaTerm genka-term 73017) in
+    let is-leap : isLeap genka 73017 ≡ true = ap (λ (m : Month). m .leap) (listed-worked genka genka-steady 73017) in
     rw (month-with genka genka-steady 73016 (genka .rainWater 643 + 6) tt, is-leap)
 
 -- the first and the last covered day of each calendar
@@ -164,9 +144,9 @@ years-outside = (refl, refl, refl, refl)
 
 -- 3: months 0 and 13, and a leap month that the year lacks
 months-lacking : (dayOf 1 1522 0 false 1 ≡ refused 3) × (dayOf 1 1522 13 false 1 ≡ refused 3) × (dayOf 1 1522 1 true 1 ≡ refused 3)
-unfolding asking dayOf rulesOf worked senmyoTerm dayAt
+unfolding asking dayOf rulesOf worked dayAt
 months-lacking =
-    let not-leap : isLeap senmyo 87454579 ≡ false = ap (λ (m : Month). m .leap) (listed-worked senmyo senmyo-steady senmyoTerm senmyo-term 87454579) in
+    let not-leap : isLeap senmyo 87454579 ≡ false = ap (λ (m : Month). m .leap) (listed-worked senmyo senmyo-steady 87454579) in
     (refl, refl, rw (month-with senmyo senmyo-steady 87454578 (senmyo .rainWater 1522) tt, not-leap))
 
 -- 4: day 0, and the day past a month of 29

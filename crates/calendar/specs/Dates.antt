@@ -9,7 +9,6 @@ use Rattle.months.specs.Rules.{Rules, dayNumber}
 use Rattle.months.specs.Months.{monthOf, firstDay, nextFirstDay, yearWith, isLeap, numberOf}
 use Rattle.asked.specs.Asked.{rulesFor, monthNamed, calendarConditions, dayConditions}
 use Rattle.calendar.specs.declared.Date.{Date}
-use Rattle.calendar.specs.declared.Days.{Days}
 
 -- day d of month k, by its day number
 abbrev pub dayIn : Rules → ℕ → ℕ → ℕ
@@ -20,11 +19,8 @@ unfoldable pub dayOf : ℕ → ℕ → ℕ → Bool → ℕ → Answer ℕ
 dayOf c y m leap d = asking (dayConditions c y m leap d) (dayIn (rulesFor c) (monthNamed (rulesFor c) y m leap) d)
 
 -- the covered days: from the first covered year's first day to the eve of the year after the last
-abbrev pub coveredDays : Rules → Days
-coveredDays r = record { first = dayNumber r (firstDay r (r .firstYear)); after = dayNumber r (nextFirstDay r (r .lastYear)) }
-
 abbrev pub isCoveredDay : Rules → ℕ → Bool
-isCoveredDay r n = leb (coveredDays r .first) n && ltb n (coveredDays r .after)
+isCoveredDay r n = leb (dayNumber r (firstDay r (r .firstYear))) n && ltb n (dayNumber r (nextFirstDay r (r .lastYear)))
 
 -- the date on a day, by the month that has it
 abbrev pub dateIn : Rules → ℕ → Date

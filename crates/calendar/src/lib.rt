@@ -2,7 +2,7 @@ ghost use mathlib.Core.Path.{_≡_};
 ghost use Prim.Native.Nat.{_+_, _-_, _<_};
 ghost use Rattle.months.specs.Rules.{rulesOf};
 ghost use Rattle.asked.specs.Room.{CoveredYear, CoveredMonth};
-ghost use Rattle.calendar.specs.Dates.{coveredDays, dayOf, dateIn, dateOf, cycle};
+ghost use Rattle.calendar.specs.Dates.{dayOf, dateIn, dateOf, cycle};
 ghost use Rattle.calendar.specs.Years.{listed, noMonth, noYear, yearIn, yearOf};
 ghost use Rattle.calendar.specs.Answers.{dayMeans, dateMeans, yearAnswer};
 ghost use Rattle.calendar.specs.Room.{CoveredDay, CoveredMonths, listedAt, listing};
@@ -64,12 +64,6 @@ pub struct YearAnswer {
     pub year: Year,
 }
 
-// Days by day number, from `first` to the eve of `after`.
-struct Days {
-    first: u64,
-    after: u64,
-}
-
 // What is known of a year after some of its months.
 struct Listing {
     leap: u8,
@@ -84,22 +78,7 @@ pub fn day_of(calendar: u64, year: u64, month: u64, leap: bool, day: u64) -> Day
     let MonthAsked::Found(known, found) = asked else {
         return DayAnswer::Refused(asked::month_refusal(asked));
     };
-    DayAnswer::Day((found.start + day - 1 - months::day_zero(known)) as u32)
-}
-
-fn covered_days(calendar: Calendar) -> Days
-    ensures { λ r. ⌜ r ≡ coveredDays (rulesOf calendar) ⌝ }
-{
-    match calendar {
-        Calendar::Senmyo => Days {
-            first: 2_021_320,
-            after: 2_336_529,
-        },
-        Calendar::Genka => Days {
-            first: 1_883_618,
-            after: 1_976_049,
-        },
-    }
+    DayAnswer::Day((found.start + day - 1 - months::numbers_of(known).day_zero) as u32)
 }
 
 // The date on a day, told in whole days from the calendar's origin.
@@ -125,14 +104,14 @@ pub fn date_of(calendar: u64, day: u64) -> DateAnswer
     let CalendarAsked::Known(known) = asked else {
         return DateAnswer::Refused(asked::calendar_refusal(asked));
     };
-    let days = covered_days(known);
-    if day < days.first {
+    let numbers = months::numbers_of(known);
+    if day < numbers.first_day {
         return DateAnswer::Refused(5);
     }
-    if days.after <= day {
+    if numbers.after_last <= day {
         return DateAnswer::Refused(5);
     }
-    DateAnswer::Date(date_in(known, (day + months::day_zero(known)) as u32))
+    DateAnswer::Date(date_in(known, (day + numbers.day_zero) as u32))
 }
 
 // The place of a day in the cycle of sixty, 0 to 59.
@@ -174,7 +153,7 @@ fn listed_month(calendar: Calendar, month: Begun, next: u64) -> Month
         number: months::term_number(calendar, last.term),
         leap: last.leap,
         length: (next - month.start) as u8,
-        first_day: (month.start - months::day_zero(calendar)) as u32,
+        first_day: (month.start - months::numbers_of(calendar).day_zero) as u32,
     }
 }
 

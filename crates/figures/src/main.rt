@@ -54,10 +54,10 @@ fn print_line_end() {
 // ---- the work, and its edges
 
 fn print_years(calendar: Calendar) {
-    let years = months::covered_years(calendar);
-    print_number(years.first as u64);
-    print_number(years.last as u64);
-    print_number(months::day_zero(calendar));
+    let numbers = months::numbers_of(calendar);
+    print_number(numbers.first_year as u64);
+    print_number(numbers.last_year as u64);
+    print_number(numbers.day_zero);
     print_line_end();
 }
 
@@ -129,17 +129,21 @@ fn print_fen_and_byo(moment: Byo) {
     print_number(moment.0 % 8);
 }
 
+fn print_rain_water(calendar: Calendar, year: u16) {
+    print_number((months::numbers_of(calendar).rain_water as u64) + 12 * (year as u64));
+}
+
 fn print_senmyo_means() {
     print_text(b"Senmyo, mid-terms 1 and 12, in fen and byo:");
-    print_fen_and_byo(senmyo::mid_term(1));
-    print_fen_and_byo(senmyo::mid_term(12));
+    print_fen_and_byo(Byo(cycles::moment_of(means::MID_TERMS, 1)));
+    print_fen_and_byo(Byo(cycles::moment_of(means::MID_TERMS, 12)));
     print_line_end();
     print_text(b"mean new moon 1, mean full moon 0, in fen and byo:");
     print_number(senmyo::mean_new_moon(1).0);
     print_fen_and_byo(senmyo::mean_full_moon(0));
     print_line_end();
     print_text(b"number of the mid-term that is Rain Water of 822:");
-    print_number(senmyo::rain_water(822) as u64);
+    print_rain_water(Calendar::Senmyo, 822);
     print_line_end();
 }
 
@@ -147,11 +151,11 @@ fn print_genka_means() {
     print_text(b"Genka, new moon 1 in parts, full moon 0 in half parts, day of new moon 752:");
     print_number(genka::new_moon(1).0);
     print_number(genka::full_moon(0).0);
-    print_number(genka::new_moon_day(752));
+    print_number(cycles::day_of(genka::NEW_MOONS, 752));
     print_line_end();
     print_text(b"Genka, day of mid-term 7296, number of the mid-term that is Rain Water of 445:");
-    print_number(genka::mid_term_day(7296));
-    print_number(genka::rain_water(445) as u64);
+    print_number(cycles::day_of(genka::MID_TERMS, 7296));
+    print_rain_water(Calendar::Genka, 445);
     print_line_end();
 }
 

@@ -1,5 +1,7 @@
 -- Genka, counted from its origin (01, "Months and leap", the last sentence of "Units", and "Instants for the chart"; 001).
-use Prim.Native.Nat.{ℕ, _+_, _*_, _/_}
+use Prim.Native.Nat.{ℕ, _+_, _*_}
+use Rattle.cycles.specs.declared.Cycle.{Cycle}
+use Rattle.cycles.specs.Cycles.{cycleMoment, cycleDay}
 use Rattle.genka.specs.declared.Part.{Part}
 use Rattle.genka.specs.declared.HalfPart.{HalfPart}
 
@@ -20,21 +22,29 @@ dayParts = 752
 abbrev pub dayHalfParts : ℕ
 dayHalfParts = 2 * dayParts
 
--- new moons are 22,207/752 days apart: new moon j
+-- new moons are 22,207/752 days apart
+abbrev pub newMoons : Cycle
+newMoons = record { spacing = 22207; «of_day» = dayParts }
+
+-- new moon j
 abbrev pub newMoon : ℕ → Part
-newMoon j = part (22207 * j)
+newMoon j = part (cycleMoment newMoons j)
 
 -- .. and its day, with no correction and no advance, in whole days from the origin
 abbrev pub newMoonDay : ℕ → ℕ
-newMoonDay j = newMoon j .0 / dayParts
+newMoonDay j = cycleDay newMoons j
 
 -- the full moon is half a spacing later: half of 22,207 parts is 22,207 half parts
 abbrev pub fullMoon : ℕ → HalfPart
 fullMoon j = halfPart (partToHalfParts (newMoon j) .0 + 22207)
 
--- mid-terms are 222,070/7,296 days apart: the day of mid-term j
+-- mid-terms are 222,070/7,296 days apart
+abbrev pub midTerms : Cycle
+midTerms = record { spacing = 222070; «of_day» = 7296 }
+
+-- the day of mid-term j
 abbrev pub midTermDay : ℕ → ℕ
-midTermDay j = 222070 * j / 7296
+midTermDay j = cycleDay midTerms j
 
 -- year Y starts with k = Y + 5260 years since the origin
 abbrev pub yearsSinceOrigin : ℕ → ℕ

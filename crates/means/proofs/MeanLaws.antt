@@ -1,10 +1,8 @@
--- The means of Senmyo agree with each other as 01 says, and its mid-terms lie 30 or 31 days apart.
+-- The means of Senmyo agree with each other as 01 says.
 use mathlib.Core.Path.{_≡_, refl, ap}
-use Prim.Native.Nat.{ℕ, _+_, _*_, _≤_}
+use Prim.Native.Nat.{ℕ, _+_, _*_}
 use native.Mathlib.Omega.{arith}
-use Rattle.numbers.specs.Spans.{Takes}
-use Rattle.numbers.proofs.Spans.{Growing, growing}
-use Rattle.units.specs.Units.{byo, anomalySeconds, fenToByo, byoToAnomalySeconds}
+use Rattle.units.specs.Units.{byo, anomalySeconds, fenToByo, byoToFen, byoToAnomalySeconds, wholeDays}
 use Rattle.means.specs.Means.{accumulatedYears, solarYear, solstice, termSpacing, midTerm, midTermDay, rainWater, meanNewMoon, meanFullMoon}
 
 -- mid-terms are 255,671 1/4 fen apart
@@ -34,12 +32,6 @@ new-moon-seconds k = ap anomalySeconds (omega arith)
 pub full-moon-seconds : (k : ℕ) → byoToAnomalySeconds (meanFullMoon k) ≡ anomalySeconds (248057_00 * k + 124028_50)
 full-moon-seconds k = ap anomalySeconds (omega arith)
 
-pub term-takes : (j : ℕ) → Takes midTermDay j 30 31
-term-takes j = record { at-least = omega arith; at-most = omega arith }
-
-pub terms-grow : Growing midTermDay
-terms-grow = growing midTermDay 30 31 (omega arith) (omega arith) term-takes
-
--- those of 14 years take no more than 5,114 days
-pub terms-of-14-years : (j : ℕ) → midTermDay (j + 168) ≤ midTermDay j + 5114
-terms-of-14-years j = omega arith
+-- the day of a mid-term is its whole days, the byo dropped first
+mid-term-day : (j : ℕ) → wholeDays (byoToFen (midTerm j)) ≡ midTermDay j
+mid-term-day j = omega arith

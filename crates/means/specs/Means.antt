@@ -2,7 +2,9 @@
 use Prim.Native.Nat.{ℕ, _+_, _-_, _*_}
 use Rattle.units.specs.declared.Fen.{Fen}
 use Rattle.units.specs.declared.Byo.{Byo}
-use Rattle.units.specs.Units.{fen, byo, fenToByo, byoToFen, wholeDays}
+use Rattle.units.specs.Units.{fen, byo, fenToByo, dayByo}
+use Rattle.cycles.specs.declared.Cycle.{Cycle}
+use Rattle.cycles.specs.Cycles.{cycleMoment, cycleDay}
 
 -- accumulated years of year Y: 7,070,138 + (Y − 822)
 abbrev pub accumulatedYears : ℕ → ℕ
@@ -24,13 +26,17 @@ dayZero = 2580308749
 abbrev pub termSpacing : Byo
 termSpacing = byo (fenToByo (fen 127835) .0 + 5)
 
--- mid-term j: every second term from the solstice at the start of the count
-abbrev pub midTerm : ℕ → Byo
-midTerm j = byo (2 * termSpacing .0 * j)
+-- mid-terms are every second term
+abbrev pub midTerms : Cycle
+midTerms = record { spacing = 2 * termSpacing .0; «of_day» = dayByo }
 
--- .. and its day, in whole days from the start of the count
+-- mid-term j, counted from the solstice at the start of the count
+abbrev pub midTerm : ℕ → Byo
+midTerm j = byo (cycleMoment midTerms j)
+
+-- .. and its day, in whole days from there
 abbrev pub midTermDay : ℕ → ℕ
-midTermDay j = wholeDays (byoToFen (midTerm j))
+midTermDay j = cycleDay midTerms j
 
 -- the number of the mid-term of month 1 of year Y, two after the solstice's, which is that of month 11
 abbrev pub rainWater : ℕ → ℕ

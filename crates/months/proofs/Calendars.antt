@@ -1,11 +1,9 @@
 -- Both calendars are steady, and their months and mid-terms are small enough for the words that count them.
 use mathlib.Core.Path.{_≡_}
-use Prim.Native.Nat.{ℕ, _+_, _*_, _<_, _≤_, _^_}
+use Prim.Native.Nat.{ℕ, _*_, _<_, _≤_, _^_}
 use native.Mathlib.Omega.{arith}
 use Rattle.numbers.proofs.Spans.{span-holds, one-span}
-use Rattle.means.proofs.MeanLaws as mean-laws
 use Rattle.senmyo.proofs.Lengths as senmyo-lengths
-use Rattle.genka.proofs.GenkaLaws as genka-laws
 use Rattle.months.specs.declared.Calendar.{Calendar}
 use Rattle.months.specs.declared.Calendar.the-variants.{Senmyo, Genka}
 use Rattle.months.specs.Rules.{Rules, senmyo, genka, rulesOf}
@@ -16,21 +14,15 @@ pub senmyo-steady : Steady senmyo
 senmyo-steady =
     record {
       months-grow = senmyo-lengths.new-moons-grow;
-      terms-grow = mean-laws.terms-grow;
-      terms-apart = mean-laws.term-takes;
+      apart = omega arith;
+      at-least-30 = omega arith;
+      at-most-31 = omega arith;
       twelve-terms = omega arith;
       numbers = omega arith;
     }
 
 pub genka-steady : Steady genka
-genka-steady =
-    record {
-      months-grow = genka-laws.new-moons-grow;
-      terms-grow = genka-laws.terms-grow;
-      terms-apart = genka-laws.term-takes;
-      twelve-terms = omega arith;
-      numbers = omega arith;
-    }
+genka-steady = omega arith
 
 pub steady : (c : Calendar) → Steady (rulesOf c)
 unfolding rulesOf
@@ -41,22 +33,18 @@ steady Genka = genka-steady
 
 pub record Sizes (r : Rules) : Type 0 where
   pub start-size : (k : ℕ) → r .start k ≤ 30 * k
-  pub mid-size : (j : ℕ) → r .mid j ≤ 31 * j
   pub zeroth-from : 1 ≤ r .zerothNumber
   pub zeroth-to : r .zerothNumber ≤ 12
   pub year-size : r .lastYear < 2 ^ 16
-  pub rain-water-size : (y : ℕ) → y < 2 ^ 16 → r .rainWater y + 2 ^ 8 < 2 ^ 27
 
 pub sizes : (c : Calendar) → Sizes (rulesOf c)
 unfolding rulesOf
 sizes Senmyo =
     record {
       start-size = λ k. omega (arith, senmyo-lengths.near-mean k);
-      mid-size = omega arith;
       zeroth-from = omega arith;
       zeroth-to = omega arith;
       year-size = omega arith;
-      rain-water-size = omega arith;
     }
 sizes Genka = omega arith
 

@@ -6,12 +6,12 @@ use Rattle.senmyo.proofs.Lengths as senmyo-lengths
 use Rattle.genka.proofs.GenkaLaws as genka-laws
 use Rattle.months.specs.declared.Calendar.{Calendar}
 use Rattle.months.specs.declared.Calendar.the-variants.{Senmyo, Genka}
-use Rattle.months.specs.Rules.{Rules, senmyo, genka, rulesOf}
+use Rattle.months.specs.Rules.{Rules, mid, senmyo, genka, rulesOf}
 use Rattle.months.specs.Months.{monthOf, firstMonth, firstDay, nextFirstDay, yearWith, lastTerm}
 use Rattle.months.specs.Year.{MonthDays, OfYear, DemandedYear}
 use Rattle.months.specs.Room.{CoveredTerm, Covering}
-use Rattle.months.proofs.Steady.{Steady}
-use Rattle.months.proofs.FirstMonths.{years-in-order, year-holds, year-from, year-to, rain-water-fallen, year-told}
+use Rattle.months.proofs.Steady.{Steady, terms-grow}
+use Rattle.months.proofs.FirstMonths.{from-year-0, years-in-order, year-holds, year-from, year-to, rain-water-fallen, year-told}
 use Rattle.months.proofs.Years.{year-of}
 use Rattle.months.proofs.Calendars.{senmyo-steady, genka-steady, steady, sizes}
 use Rattle.months.proofs.Figures.{first-1685, first-698, senmyo-opens, senmyo-ends, genka-opens, genka-ends}
@@ -20,13 +20,13 @@ use Rattle.months.proofs.Figures.{first-1685, first-698, senmyo-opens, 
 tested-from : (y : ℕ) → 822 ≤ y → senmyo-lengths.firstTested ≤ firstMonth senmyo y
 unfolding firstMonth
 tested-from y h =
-    let terms = later (senmyo .mid) (senmyo-steady .terms-grow) (senmyo .rainWater 822) (senmyo .rainWater y) (omega arith) in
+    let terms = later (mid senmyo) (terms-grow senmyo senmyo-steady) (senmyo .rainWater 822) (senmyo .rainWater y) (omega arith) in
     span-from (senmyo .start) (senmyo-steady .months-grow) senmyo-lengths.firstTested _ (omega (arith, senmyo-lengths.tested-from))
 
 tested-to : (y : ℕ) → y ≤ 1685 → firstMonth senmyo y < senmyo-lengths.firstTested + senmyo-lengths.tested
 unfolding firstMonth
 tested-to y h =
-    let terms = later (senmyo .mid) (senmyo-steady .terms-grow) (senmyo .rainWater y) (senmyo .rainWater 1685) (omega arith) in
+    let terms = later (mid senmyo) (terms-grow senmyo senmyo-steady) (senmyo .rainWater y) (senmyo .rainWater 1685) (omega arith) in
     let after = senmyo-lengths.firstTested + senmyo-lengths.tested in
     span-before (senmyo .start) (senmyo-steady .months-grow) after _ (omega (arith, senmyo-lengths.tested-to))
 
@@ -85,7 +85,10 @@ module _ (c : Calendar) where
     -- and so is the last mid-term by its end
     pub its-term : CoveredTerm r (lastTerm r k)
     its-term =
-        record { from = rain-water-fallen r s k h; year-small = omega (arith, year-told r s k h, year-to r s k h, sizes c .year-size) }
+        record {
+          from = omega (arith, rain-water-fallen r s k h, from-year-0 r s (r .firstYear));
+          year-small = omega (arith, year-told r s k h, year-to r s k h, sizes c .year-size);
+        }
 
   -- the covered years' months lie between the first year's and the last's
   pub after-first : (y : ℕ) → r .firstYear ≤ y → firstMonth r (r .firstYear) ≤ firstMonth r y

@@ -9,7 +9,7 @@ use Rattle.units.specs.Units.{fenToByo}
 use Rattle.means.specs.Means.{accumulatedYears, solstice, midTerm, meanNewMoon}
 use Rattle.senmyo.specs.Phases.{newMoon}
 use Rattle.senmyo.proofs.Worked.{dayAt}
-use Rattle.months.specs.Rules.{Rules, senmyo, genka, dayNumber}
+use Rattle.months.specs.Rules.{Rules, mid, senmyo, genka, dayNumber}
 use Rattle.months.specs.Months.{Has, HasTerm, monthOf, monthWith, firstMonth, firstDay, nextFirstDay, numberOf, isLeap}
 use Rattle.months.specs.Room.{IsLast}
 use Rattle.months.proofs.Steady.{Steady}
@@ -31,12 +31,12 @@ has r k d t =
 month-on : (r : Rules) → Steady r → (k d : ℕ) → T (hasTest r k d) → monthOf r d ≡ k
 month-on r s k d t = span-is (r .start) (s .months-grow) k d (has r k d t)
 
-pub month-with : (r : Rules) → Steady r → (k j : ℕ) → T (hasTest r k (r .mid j)) → monthWith r j ≡ k
-month-with r s k j t = month-on r s k (r .mid j) t
+pub month-with : (r : Rules) → Steady r → (k j : ℕ) → T (hasTest r k (mid r j)) → monthWith r j ≡ k
+month-with r s k j t = month-on r s k (mid r j) t
 
 -- month 1 of a year, by its Rain Water
-pub known : (r : Rules) → Steady r → (y k : ℕ) → T (hasTest r k (r .mid (r .rainWater y))) → firstMonth r y ≡ k
-known r s y k t = sym (opened-by r s y k (has r k (r .mid (r .rainWater y)) t))
+pub known : (r : Rules) → Steady r → (y k : ℕ) → T (hasTest r k (mid r (r .rainWater y))) → firstMonth r y ≡ k
+known r s y k t = sym (opened-by r s y k (has r k (mid r (r .rainWater y)) t))
 
 pub first-1522 : firstMonth senmyo 1522 ≡ 87454578
 unfolding dayAt
@@ -88,7 +88,7 @@ genka-ends = rw first-698
 
 -- the solstices of 937 and 1575 belong to the month before the one that the last mean new moon opens
 solsticeDay : ℕ → ℕ
-solsticeDay y = senmyo .mid (12 * accumulatedYears y)
+solsticeDay y = mid senmyo (12 * accumulatedYears y)
 
 solstice-937 : monthOf senmyo (solsticeDay 937) + 1 ≡ solstice 937 .0 / meanNewMoon 1 .0
 unfolding solsticeDay dayAt
@@ -101,7 +101,7 @@ solstice-1575 = rw (month-on senmyo senmyo-steady 87455231 (solsticeDay 1575) tt
 -- the mid-term of month 8 of 833 falls on that month's first day, before the moment of its new moon
 by-day-833 : HasTerm senmyo 87446064 (senmyo .rainWater 833 + 7)
 unfolding dayAt
-by-day-833 = has senmyo 87446064 (senmyo .mid (senmyo .rainWater 833 + 7)) tt
+by-day-833 = has senmyo 87446064 (mid senmyo (senmyo .rainWater 833 + 7)) tt
 
 not-by-moment-833 : ltb (midTerm (senmyo .rainWater 833 + 7) .0) (fenToByo (newMoon 87446064) .0) ≡ true
 unfolding dayAt

@@ -1,22 +1,22 @@
 -- Month 1 of a year is the one month that has its Rain Water, and later years have later ones.
 use mathlib.Core.Path.{_≡_, sym}
 use mathlib.Core.Bool.{false}
-use Prim.Native.Nat.{ℕ, zero, suc, _+_, _-_, _*_, _/_, _<_, _≤_}
+use Prim.Native.Nat.{ℕ, zero, suc, _+_, _*_, _<_, _≤_}
 use native.Mathlib.Numerals.{add-one}
 use native.Mathlib.Omega.{arith}
 use Rattle.numbers.proofs.Spans.{later, not-after, found, begun-to, span-holds, span-is, span-from}
-use Rattle.months.specs.Rules.{Rules}
+use Rattle.months.specs.Rules.{Rules, mid}
 use Rattle.months.specs.Months.{HasTerm, monthWith, firstMonth, yearWith, lastTerm, isLeap}
 use Rattle.months.specs.Year.{OfYear}
-use Rattle.months.specs.Room.{Covering}
-use Rattle.months.proofs.Steady.{Steady}
+use Rattle.months.specs.Room.{termYear, Covering}
+use Rattle.months.proofs.Steady.{Steady, terms-grow}
 use Rattle.months.proofs.Terms.{last-term, has-not-leap}
 
 -- a later mid-term falls in a later month, or the same
 pub terms-in-order : (r : Rules) → Steady r → (i j : ℕ) → i ≤ j → monthWith r i ≤ monthWith r j
 terms-in-order r s i j h =
-    let here = span-holds (r .start) (s .months-grow) (r .mid i) in
-    span-from (r .start) (s .months-grow) (monthWith r i) (r .mid j) (omega (arith, here .from, later (r .mid) (s .terms-grow) i j h))
+    let here = span-holds (r .start) (s .months-grow) (mid r i) in
+    span-from (r .start) (s .months-grow) (monthWith r i) (mid r j) (omega (arith, here .from, later (mid r) (terms-grow r s) i j h))
 
 module _ (r : Rules) (s : Steady r) (y : ℕ) where
   pub opens : HasTerm r (firstMonth r y) (r .rainWater y)
@@ -60,16 +60,16 @@ module _ (r : Rules) (s : Steady r) where
   rain-water-by : (y k : ℕ) → firstMonth r y ≤ k → r .rainWater y ≤ lastTerm r k
   rain-water-by y k h =
       let begun = later (r .start) (s .months-grow) (firstMonth r y + 1) (k + 1) (omega arith) in
-      not-after (r .mid) (s .terms-grow) (r .rainWater y) (lastTerm r k) _ (omega (arith, opens r s y .to)) (last-term r s k .to)
+      not-after (mid r) (terms-grow r s) (r .rainWater y) (lastTerm r k) _ (omega (arith, opens r s y .to)) (last-term r s k .to)
 
   -- .. and before the next year's month 1 its Rain Water has not
   no-rain-water-by : (y k : ℕ) → k < firstMonth r (y + 1) → lastTerm r k < r .rainWater y + 12
   no-rain-water-by y k h =
       let twelve-on : r .rainWater (y + 1) ≡ r .rainWater y + 11 + 1 = omega (arith, s .twelve-terms y) in
-      let next : r .start (firstMonth r (y + 1)) ≤ r .mid (r .rainWater y + 11 + 1) = rw twelve-on at (opens r s (y + 1) .from) in
+      let next : r .start (firstMonth r (y + 1)) ≤ mid r (r .rainWater y + 11 + 1) = rw twelve-on at (opens r s (y + 1) .from) in
       let ended = later (r .start) (s .months-grow) (k + 1) (firstMonth r (y + 1)) (omega arith) in
       let grown = s .months-grow .grows k in
-      let last = not-after (r .mid) (s .terms-grow) (lastTerm r k) (r .rainWater y + 11) _ (last-term r s k .from) (omega arith) in
+      let last = not-after (mid r) (terms-grow r s) (lastTerm r k) (r .rainWater y + 11) _ (last-term r s k .from) (omega arith) in
       omega arith
 
   -- the last mid-term by the end of a month is one of the twelve that its year has
@@ -100,6 +100,6 @@ module _ (r : Rules) (s : Steady r) where
     pub year-is : (y : ℕ) → OfYear r y k → yearWith r k ≡ y
     year-is y h = one-year (yearWith r k) y k year-holds h
 
-    -- the year is told by the last mid-term: one for each dozen after the Rain Water of the first covered year
-    pub year-told : r .firstYear + (lastTerm r k - r .rainWater (r .firstYear)) / 12 ≡ yearWith r k
-    year-told = omega (arith, rain-water-fallen, from-year-0 (r .firstYear), from-year-0 (yearWith r k), dozen (yearWith r k) k year-holds)
+    -- the year is told by the last mid-term: one for each dozen after the Rain Water of year 0
+    pub year-told : termYear r (lastTerm r k) ≡ yearWith r k
+    year-told = omega (arith, from-year-0 (yearWith r k), dozen (yearWith r k) k year-holds)

@@ -4,7 +4,6 @@ use native.Mathlib.Omega.{arith}
 use Rattle.senmyo.specs.Phases as senmyo-phases
 use Rattle.senmyo.proofs.PhaseLaws.{advance-is-floor}
 use Rattle.senmyo.proofs.Lengths as senmyo-lengths
-use Rattle.genka.proofs.GenkaLaws as genka-laws
 use Rattle.months.specs.declared.Calendar.{Calendar}
 use Rattle.months.specs.declared.Calendar.the-variants.{Senmyo, Genka}
 use Rattle.months.specs.Rules.{rulesOf}
@@ -13,4 +12,4 @@ use Rattle.months.specs.Months.{MoonDays}
 pub moon-days : (c : Calendar) (k : ℕ) → MoonDays (rulesOf c) k
 unfolding rulesOf
 moon-days Senmyo k = omega (arith, advance-is-floor (senmyo-phases.newMoon k), senmyo-lengths.full-moon-day k)
-moon-days Genka k = omega (arith, genka-laws.full-moon-day k)
+moon-days Genka k = omega arith

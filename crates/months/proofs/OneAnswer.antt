@@ -1,8 +1,7 @@
 -- What each public function promises leaves one answer.
 use Rattle.numbers.specs.OneResult.{OneResult}
 use Rattle.numbers.proofs.OneResult.{one}
-use Rattle.months.proofs.covered_years.Reads as covered-years
-use Rattle.months.proofs.day_zero.Reads as day-zero
+use Rattle.months.proofs.numbers_of.Reads as numbers-of
 use Rattle.months.proofs.term_number.Reads as term-number
 use Rattle.months.proofs.term_day.Reads as term-day
 use Rattle.months.proofs.begin.Reads as begin
@@ -14,11 +13,8 @@ use Rattle.months.proofs.term_year.Reads as term-year
 use Rattle.months.proofs.new_moon.Reads as new-moon
 use Rattle.months.proofs.full_moon.Reads as full-moon
 
-pub one-covered-years : OneResult covered-years.Learnt
-one-covered-years _ _ _ _ _ _ = one
-
-pub one-day-zero : OneResult day-zero.Learnt
-one-day-zero _ _ _ _ _ _ = one
+pub one-numbers-of : OneResult numbers-of.Learnt
+one-numbers-of _ _ _ _ _ _ = one
 
 pub one-term-number : OneResult term-number.Learnt
 one-term-number _ _ _ _ _ _ = one

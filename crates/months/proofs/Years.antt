@@ -5,11 +5,11 @@ use Prim.Native.Nat.{ℕ, zero, suc, _+_, _-_, _<_, _≤_}
 use native.Mathlib.Numerals.{add-one}
 use native.Mathlib.Omega.{arith, by-contra}
 use Rattle.numbers.proofs.Spans.{later, one-span, span-holds, span-is, span-from, span-before, together}
-use Rattle.months.specs.Rules.{Rules}
+use Rattle.months.specs.Rules.{Rules, mid}
 use Rattle.months.specs.Months.{Has, HasTerm, monthOf, monthWith, firstMonth, termNumber, lastTerm}
 use Rattle.months.specs.Year.{MonthDays, OfYear, WithinYear, OneMonth, Numbered, LeapAfter, Twelve, Thirteen, TwelveOrThirteen, twelve, thirteen, DemandedYear}
 use Rattle.months.proofs.Order.{by-order}
-use Rattle.months.proofs.Steady.{Steady}
+use Rattle.months.proofs.Steady.{Steady, terms-apart}
 use Rattle.months.proofs.FirstMonths.{terms-in-order, opens, first-with, next-with}
 use Rattle.months.proofs.Terms.{has-not-leap, has-none-leap, one-term, last-term-is, number-of-last, number-of-leap}
 
@@ -43,8 +43,8 @@ module _ (r : Rules) (s : Steady r) (y : ℕ) (length : (k : ℕ) → firstMonth
   rises : (i : ℕ) → i < 12 → with i < with (i + 1)
   rises i h =
       let one-on : term (i + 1) ≡ term i + 1 = omega arith in
-      let apart = s .terms-apart (term i) in
-      let late = span-from (r .start) (s .months-grow) (with i + 1) (r .mid (term i + 1)) (omega (arith, has i, takes i (omega arith))) in
+      let apart = terms-apart r s (term i) in
+      let late = span-from (r .start) (s .months-grow) (with i + 1) (mid r (term i + 1)) (omega (arith, has i, takes i (omega arith))) in
       rw one-on (omega arith)
 
   climbs : (i n : ℕ) → i + n ≤ 12 → with i + n ≤ with (i + n)
@@ -69,9 +69,9 @@ module _ (r : Rules) (s : Steady r) (y : ℕ) (length : (k : ℕ) → firstMonth
       by-contra next (first + 13)
       (λ many.
       let months = together (r .start) 29 30 first 14 (λ k low high. omega (arith, length k low (omega arith))) in
-      let terms = together (r .mid) 30 31 (r .rainWater y) 12 (λ j low high. s .terms-apart j) in
+      let terms = together (mid r) 30 31 (r .rainWater y) 12 (λ j low high. terms-apart r s j) in
       let rest = later (r .start) (s .months-grow) (first + 14) next (omega arith) in
-      let ends : r .start next ≤ r .mid (term 12) = rw (next-with r s y) at (has 12 .from) in
+      let ends : r .start next ≤ mid r (term 12) = rw (next-with r s y) at (has 12 .from) in
       omega (arith, opens r s y .to, length first (omega arith) (omega arith)))
 
   last : (i : ℕ) → i < 12 → lastTerm r (with i) ≡ term i
@@ -119,7 +119,7 @@ module _ (r : Rules) (s : Steady r) (y : ℕ) (length : (k : ℕ) → firstMonth
     -- the month that is passed over holds none
     passed-over : (j : ℕ) → HasTerm r leap j → ⊥
     passed-over j h =
-        let here : monthWith r j ≡ leap = span-is (r .start) (s .months-grow) leap (r .mid j) h in
+        let here : monthWith r j ≡ leap = span-is (r .start) (s .months-grow) leap (mid r j) h in
         by-order (term (g .t)) j (λ late. omega (arith, terms-in-order r s (term (g .t + 1)) j (omega arith), g .behind))
         (λ early. omega (arith, terms-in-order r s j (term (g .t)) early, g .before))
 

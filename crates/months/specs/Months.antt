@@ -3,13 +3,9 @@ use mathlib.Core.Bool.{Bool, true, false}
 use Prim.Native.Nat.{ℕ, _+_, _-_, _%_, _≤_}
 use lib.Dec.{ltb}
 use Rattle.numbers.specs.Spans.{Holds, lastBegun, spanOf}
-use Rattle.months.specs.declared.YearRange.{YearRange}
+use Rattle.cycles.specs.Cycles.{lastBy}
 use Rattle.months.specs.declared.Begun.{Begun}
-use Rattle.months.specs.Rules.{Rules, daysAt}
-
--- the first covered year and the last
-abbrev pub coveredYears : Rules → YearRange
-coveredYears r = record { first = r .firstYear; last = r .lastYear }
+use Rattle.months.specs.Rules.{Rules, mid, daysAt}
 
 -- a month runs from its new moon's day to the eve of the next: month k has day d
 abbrev pub Has : Rules → ℕ → ℕ → Type 0
@@ -17,7 +13,7 @@ Has r k d = Holds (r .start) k d
 
 -- a mid-term belongs to the month that has its day
 abbrev pub HasTerm : Rules → ℕ → ℕ → Type 0
-HasTerm r k j = Has r k (r .mid j)
+HasTerm r k j = Has r k (mid r j)
 
 -- the month that has a day
 abbrev pub monthOf : Rules → ℕ → ℕ
@@ -25,7 +21,7 @@ monthOf r d = spanOf (r .start) d
 
 -- .. and that which has a mid-term
 abbrev pub monthWith : Rules → ℕ → ℕ
-monthWith r j = monthOf r (r .mid j)
+monthWith r j = monthOf r (mid r j)
 
 -- a month with its first day
 abbrev pub begun : Rules → ℕ → Begun
@@ -60,11 +56,11 @@ termNumber r j = (j + r .zerothNumber - 1) % 12 + 1
 
 -- the last mid-term that falls by the last day of month k
 unfoldable pub lastTerm : Rules → ℕ → ℕ
-lastTerm r k = spanOf (r .mid) (r .start (k + 1) - 1)
+lastTerm r k = lastBy (r .terms) (r .start (k + 1) - 1)
 
 -- a month without a mid-term is leap: the last one by its end falls before its start
 unfoldable pub isLeap : Rules → ℕ → Bool
-isLeap r k = ltb (r .mid (lastTerm r k)) (r .start k)
+isLeap r k = ltb (mid r (lastTerm r k)) (r .start k)
 
 -- months with a mid-term take its number; a month without one takes the number before it
 unfoldable pub numberOf : Rules → ℕ → ℕ

@@ -4,22 +4,37 @@ use Prim.Native.Nat.{ℕ, _+_, _-_, _/_, _<_, _≤_, _^_}
 use Rattle.numbers.specs.Spans.{Holds}
 use Rattle.months.specs.declared.Begun.{Begun}
 use Rattle.months.specs.declared.LastTerm.{LastTerm}
-use Rattle.months.specs.Rules.{Rules}
-use Rattle.months.specs.Months.{begun, firstMonth, lastTerm, isLeap}
+use Rattle.months.specs.declared.CalendarNumbers.{CalendarNumbers}
+use Rattle.months.specs.Rules.{Rules, mid, dayNumber}
+use Rattle.months.specs.Months.{begun, firstMonth, firstDay, nextFirstDay, lastTerm, isLeap}
 
 -- ---- what is found
 
+-- what is told of a calendar by a number
+abbrev pub numbersOf : Rules → CalendarNumbers
+numbersOf r =
+    record {
+      «first_year» = r .firstYear;
+      «last_year» = r .lastYear;
+      «first_day» = dayNumber r (firstDay r (r .firstYear));
+      «after_last» = dayNumber r (nextFirstDay r (r .lastYear));
+      «day_zero» = r .dayZero;
+      terms = r .terms;
+      «zeroth_number» = r .zerothNumber;
+      «rain_water» = r .rainWater 0;
+    }
+
 -- mid-term j is the last by the end of month k: it has fallen by then, and the next has not
 abbrev pub IsLast : Rules → ℕ → ℕ → Type 0
-IsLast r k j = Holds (r .mid) j (r .start (k + 1) - 1)
+IsLast r k j = Holds (mid r) j (r .start (k + 1) - 1)
 
 -- the last mid-term by the end of month k, and whether that month is leap
 abbrev pub lastTermOf : Rules → ℕ → LastTerm
 lastTermOf r k = record { term = lastTerm r k; leap = isLeap r k }
 
--- the year of a mid-term: twelve to a year, from the first covered year's Rain Water on
+-- the year of a mid-term: twelve to a year, from the Rain Water of year 0 on
 abbrev pub termYear : Rules → ℕ → ℕ
-termYear r j = r .firstYear + (j - r .rainWater (r .firstYear)) / 12
+termYear r j = (j - r .rainWater 0) / 12
 
 -- ---- what is asked
 
@@ -33,9 +48,9 @@ pub record Ending (r : Rules) (b : Begun) (next : ℕ) : Type 0 where
   pub starting : Starting r b
   pub next-own : next ≡ r .start (b .month + 1)
 
--- mid-term j is not before the covered years, and its year fits its word
+-- mid-term j is not before year 0, and its year fits its word
 pub record CoveredTerm (r : Rules) (j : ℕ) : Type 0 where
-  pub from : r .rainWater (r .firstYear) ≤ j
+  pub from : r .rainWater 0 ≤ j
   pub year-small : termYear r j < 2 ^ 16
 
 -- month k is one of a covered year

@@ -2,8 +2,11 @@
 -- from the calendar's own origin.
 use Prim.Native.Nat.{ℕ, _-_, _/_}
 use Rattle.units.specs.Units.{dayFen}
+use Rattle.cycles.specs.declared.Cycle.{Cycle}
+use Rattle.cycles.specs.Cycles.{cycleDay}
 use Rattle.means.specs.Means as senmyo-means
 use Rattle.senmyo.specs.Phases as senmyo-phases
+use Rattle.senmyo.specs.FullMoons as senmyo-full-moons
 use Rattle.genka.specs.Genka as genka-means
 use Rattle.months.specs.declared.Calendar.{Calendar}
 use Rattle.months.specs.declared.Moment.{Moment}
@@ -15,8 +18,8 @@ pub record Rules : Type 0 where
   pub lastYear : ℕ
   -- the day to which new moon k counts: where month k starts
   pub start : ℕ → ℕ
-  -- the day of mid-term j
-  pub mid : ℕ → ℕ
+  -- mid-terms, each so much after the one before
+  pub terms : Cycle
   -- the number of the month whose mid-term is mid-term 0
   pub zerothNumber : ℕ
   -- the mid-term that is the Rain Water of year y
@@ -26,6 +29,10 @@ pub record Rules : Type 0 where
   -- new moon k, before any advance, and the full moon after it
   pub newMoon : ℕ → Moment
   pub fullMoon : ℕ → Moment
+
+-- the day of mid-term j
+abbrev pub mid : Rules → ℕ → ℕ
+mid r j = cycleDay (r .terms) j
 
 -- a moment of so many units, of which a day has so many
 abbrev pub moment : ℕ → ℕ → Moment
@@ -42,12 +49,12 @@ senmyo =
       firstYear = 822;
       lastYear = 1684;
       start = λ k. senmyo-phases.newMoonDay k;
-      mid = λ j. senmyo-means.midTermDay j;
+      terms = senmyo-means.midTerms;
       zerothNumber = 11;
       rainWater = λ y. senmyo-means.rainWater y;
       dayZero = senmyo-means.dayZero;
       newMoon = λ k. moment (senmyo-phases.newMoon k .0) dayFen;
-      fullMoon = λ k. moment (senmyo-phases.fullMoonFen k .0) dayFen;
+      fullMoon = λ k. moment (senmyo-full-moons.fullMoonFen k .0) dayFen;
     }
 
 -- mid-term 0 is a Rain Water, of month 1; moments are told in half parts
@@ -57,7 +64,7 @@ genka =
       firstYear = 445;
       lastYear = 697;
       start = λ k. genka-means.newMoonDay k;
-      mid = λ j. genka-means.midTermDay j;
+      terms = genka-means.midTerms;
       zerothNumber = 1;
       rainWater = λ y. genka-means.rainWater y;
       dayZero = genka-means.dayZero;

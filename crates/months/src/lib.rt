@@ -1,11 +1,14 @@
 ghost use mathlib.Core.Path.{_≡_};
-ghost use Prim.Native.Nat.{_+_};
-ghost use Rattle.numbers.specs.Spans.{Holds};
-ghost use Rattle.months.specs.Rules.{senmyo, genka, rulesOf};
-ghost use Rattle.months.specs.Months.{coveredYears, begun, monthOf, termNumber};
-ghost use Rattle.months.specs.Room.{lastTermOf, termYear, Starting, Ending, CoveredTerm};
+ghost use Prim.Native.Nat.{_+_, _*_, _<_, _^_};
+ghost use Rattle.cycles.specs.Cycles.{lastBy, dated};
+ghost use Rattle.months.specs.Rules.{mid, senmyo, rulesOf};
+ghost use Rattle.months.specs.Months.{begun, monthOf, termNumber};
+ghost use Rattle.months.specs.Room.{numbersOf, lastTermOf, termYear, Starting, Ending, CoveredTerm};
 ghost use Rattle.months.specs.Year.{MonthDays};
+use cycles::Cycle;
+use cycles::Dated;
 use genka::HALF_PARTS_IN_DAY;
+use genka::NEW_MOONS;
 use units::FEN_IN_DAY;
 
 pub enum Calendar {
@@ -13,10 +16,21 @@ pub enum Calendar {
     Genka,
 }
 
-// Years from the first to the last.
-pub struct YearRange {
-    pub first: u16,
-    pub last: u16,
+// What is told of a calendar by a number.
+pub struct CalendarNumbers {
+    // The covered years.
+    pub first_year: u16,
+    pub last_year: u16,
+    // Their first day, and the day after their last, by day number.
+    pub first_day: u64,
+    pub after_last: u64,
+    // The whole days, from the calendar's origin, of day number 0.
+    pub day_zero: u64,
+    pub terms: Cycle,
+    // The number of the month whose mid-term is mid-term 0.
+    pub zeroth_number: u64,
+    // The mid-term that is the Rain Water of year 0. Each next year's comes twelve later.
+    pub rain_water: u32,
 }
 
 // A month by the number of its new moon, with the day on which it starts.
@@ -37,79 +51,47 @@ pub struct Moment {
     pub of_day: u32,
 }
 
-// The covered years, from the first to the last.
-pub fn covered_years(calendar: Calendar) -> YearRange
-    ensures { λ r. ⌜ r ≡ coveredYears (rulesOf calendar) ⌝ }
+// Mid-term 0 is a solstice, of month 11. Years are counted from the first of 7,070,138 before 822, and Rain Water comes two mid-terms after the solstice.
+const SENMYO: CalendarNumbers = CalendarNumbers {
+    first_year: 822,
+    last_year: 1684,
+    first_day: 2_021_320,
+    after_last: 2_336_529,
+    day_zero: 2_580_308_749,
+    terms: means::MID_TERMS,
+    zeroth_number: 11,
+    rain_water: 12 * (7_070_138 - 822) + 2,
+};
+
+// Mid-term 0 is a Rain Water, of month 1, 5,260 years before year 0.
+const GENKA: CalendarNumbers = CalendarNumbers {
+    first_year: 445,
+    last_year: 697,
+    first_day: 1_883_618,
+    after_last: 1_976_049,
+    day_zero: 200_089,
+    terms: genka::MID_TERMS,
+    zeroth_number: 1,
+    rain_water: 12 * 5260,
+};
+
+pub fn numbers_of(calendar: Calendar) -> CalendarNumbers
+    ensures { λ r. ⌜ r ≡ numbersOf (rulesOf calendar) ⌝ }
 {
     match calendar {
-        Calendar::Senmyo => YearRange {
-            first: 822,
-            last: 1684,
-        },
-        Calendar::Genka => YearRange {
-            first: 445,
-            last: 697,
-        },
+        Calendar::Senmyo => SENMYO,
+        Calendar::Genka => GENKA,
     }
 }
 
-// The whole days, from the calendar's origin, of day number 0.
-pub fn day_zero(calendar: Calendar) -> u64
-    ensures { λ r. ⌜ r ≡ rulesOf calendar .dayZero ⌝ }
+// The last mid-term by the end of a day, with its own day, both in whole days from the calendar's origin. Each way names its cycle, so that the compiler divides
+// by constants alone.
+fn mid_term_by(calendar: Calendar, day: u32) -> Dated
+    ensures { λ r. ⌜ r ≡ dated (rulesOf calendar .terms) (lastBy (rulesOf calendar .terms) day) ⌝ }
 {
     match calendar {
-        Calendar::Senmyo => 2_580_308_749,
-        Calendar::Genka => 200_089,
-    }
-}
-
-// The day on which a month starts, in whole days from the calendar's origin.
-fn start(calendar: Calendar, month: u32) -> u64
-    ensures { λ r. ⌜ r ≡ rulesOf calendar .start month ⌝ }
-{
-    match calendar {
-        Calendar::Senmyo => senmyo::new_moon_day(month),
-        Calendar::Genka => genka::new_moon_day(month),
-    }
-}
-
-// The day of a mid-term.
-fn mid_day(calendar: Calendar, term: u32) -> u64
-    ensures { λ r. ⌜ r ≡ rulesOf calendar .mid term ⌝ }
-{
-    match calendar {
-        Calendar::Senmyo => senmyo::mid_term_day(term),
-        Calendar::Genka => genka::mid_term_day(term),
-    }
-}
-
-// The last mid-term by the end of a day.
-fn mid_term_by(calendar: Calendar, day: u32) -> u32
-    ensures { λ r. ⌜ Holds (rulesOf calendar .mid) r day ⌝ }
-{
-    match calendar {
-        Calendar::Senmyo => senmyo::mid_term_by(day),
-        Calendar::Genka => genka::mid_term_by(day),
-    }
-}
-
-// The mid-term that is the Rain Water of a year.
-fn rain_water(calendar: Calendar, year: u16) -> u32
-    ensures { λ r. ⌜ r ≡ rulesOf calendar .rainWater year ⌝ }
-{
-    match calendar {
-        Calendar::Senmyo => senmyo::rain_water(year),
-        Calendar::Genka => genka::rain_water(year),
-    }
-}
-
-// The number of the month whose mid-term is mid-term 0: a solstice in Senmyo, Rain Water in Genka.
-fn zeroth_number(calendar: Calendar) -> u64
-    ensures { λ r. ⌜ r ≡ rulesOf calendar .zerothNumber ⌝ }
-{
-    match calendar {
-        Calendar::Senmyo => 11,
-        Calendar::Genka => 1,
+        Calendar::Senmyo => cycles::last_by(SENMYO.terms, day),
+        Calendar::Genka => cycles::last_by(GENKA.terms, day),
     }
 }
 
@@ -117,28 +99,40 @@ fn zeroth_number(calendar: Calendar) -> u64
 pub fn term_number(calendar: Calendar, term: u32) -> u8
     ensures { λ r. ⌜ r ≡ termNumber (rulesOf calendar) term ⌝ }
 {
-    ((term as u64 + zeroth_number(calendar) - 1) % 12 + 1) as u8
+    ((term as u64 + numbers_of(calendar).zeroth_number - 1) % 12 + 1) as u8
 }
 
-// The day of a mid-term of a year, the one that comes `after` the Rain Water by so many.
+// The mid-term of a year that comes `after` the Rain Water by so many.
+fn term_of(numbers: CalendarNumbers, year: u16, after: u8) -> u32
+    requires { ⌜ numbers .«rain_water» < 2 ^ 27 ⌝ }
+    ensures { λ r. ⌜ r ≡ numbers .«rain_water» + 12 * year + after ⌝ }
+{
+    numbers.rain_water + 12 * (year as u32) + (after as u32)
+}
+
+// Its day.
 pub fn term_day(calendar: Calendar, year: u16, after: u8) -> u32
-    ensures { λ r. ⌜ r ≡ rulesOf calendar .mid (rulesOf calendar .rainWater year + after) ⌝ }
+    ensures { λ r. ⌜ r ≡ mid (rulesOf calendar) (rulesOf calendar .rainWater year + after) ⌝ }
 {
     match calendar {
-        Calendar::Senmyo => {
-            senmyo::mid_term_day(senmyo::rain_water(year) + (after as u32)) as u32
-        }
-        Calendar::Genka => genka::mid_term_day(genka::rain_water(year) + (after as u32)) as u32,
+        Calendar::Senmyo => cycles::day_of(SENMYO.terms, term_of(SENMYO, year, after)) as u32,
+        Calendar::Genka => cycles::day_of(GENKA.terms, term_of(GENKA, year, after)) as u32,
     }
 }
 
-// A month, by the number of its new moon.
+// A month, by the number of its new moon, with its first day in whole days from the calendar's origin.
 pub fn begin(calendar: Calendar, month: u32) -> Begun
     ensures { λ r. ⌜ r ≡ begun (rulesOf calendar) month ⌝ }
 {
-    Begun {
-        month,
-        start: start(calendar, month),
+    match calendar {
+        Calendar::Senmyo => Begun {
+            month,
+            start: senmyo::new_moon_day(month),
+        },
+        Calendar::Genka => Begun {
+            month,
+            start: cycles::day_of(NEW_MOONS, month),
+        },
     }
 }
 
@@ -153,20 +147,19 @@ fn senmyo_month(day: u32) -> Begun
     begin(Calendar::Senmyo, latest.month - 1)
 }
 
-// The month of Genka that has a day.
-fn genka_month(day: u32) -> Begun
-    ensures { λ r. ⌜ r ≡ begun genka (monthOf genka day) ⌝ }
-{
-    begin(Calendar::Genka, genka::month_by(day))
-}
-
 // The month that has a day.
 pub fn month_of(calendar: Calendar, day: u32) -> Begun
     ensures { λ r. ⌜ r ≡ begun (rulesOf calendar) (monthOf (rulesOf calendar) day) ⌝ }
 {
     match calendar {
         Calendar::Senmyo => senmyo_month(day),
-        Calendar::Genka => genka_month(day),
+        Calendar::Genka => {
+            let last = cycles::last_by(NEW_MOONS, day);
+            Begun {
+                month: last.number,
+                start: last.day,
+            }
+        }
     }
 }
 
@@ -190,7 +183,7 @@ pub fn month_by(calendar: Calendar, day: u32) -> u32
 {
     match calendar {
         Calendar::Senmyo => senmyo_month_by(day),
-        Calendar::Genka => genka::month_by(day),
+        Calendar::Genka => cycles::last_by(NEW_MOONS, day).number,
     }
 }
 
@@ -199,10 +192,10 @@ pub fn last_term_by(calendar: Calendar, month: Begun, next: u64) -> LastTerm
     requires { ⌜ Ending (rulesOf calendar) month next ⌝ }
     ensures { λ r. ⌜ r ≡ lastTermOf (rulesOf calendar) (month .month) ⌝ }
 {
-    let term = mid_term_by(calendar, (next - 1) as u32);
+    let last = mid_term_by(calendar, (next - 1) as u32);
     LastTerm {
-        term,
-        leap: mid_day(calendar, term) < month.start,
+        term: last.number,
+        leap: last.day < month.start,
     }
 }
 
@@ -212,15 +205,16 @@ pub fn last_term_of(calendar: Calendar, month: Begun) -> LastTerm
     requires { ⌜ MonthDays (rulesOf calendar) (month .month) ⌝ }
     ensures { λ r. ⌜ r ≡ lastTermOf (rulesOf calendar) (month .month) ⌝ }
 {
-    let term = mid_term_by(calendar, (month.start + 29) as u32);
-    let day = mid_day(calendar, term);
+    let last = mid_term_by(calendar, (month.start + 29) as u32);
+    let term = last.number;
+    let day = last.day;
     if day < month.start + 29 {
         return LastTerm {
             term,
             leap: day < month.start,
         };
     }
-    if day < start(calendar, month.month + 1) {
+    if day < begin(calendar, month.month + 1).start {
         return LastTerm { term, leap: false };
     }
     LastTerm {
@@ -234,8 +228,7 @@ pub fn term_year(calendar: Calendar, term: u32) -> u16
     requires { ⌜ CoveredTerm (rulesOf calendar) term ⌝ }
     ensures { λ r. ⌜ r ≡ termYear (rulesOf calendar) term ⌝ }
 {
-    let first = covered_years(calendar).first;
-    first + ((term - rain_water(calendar, first)) / 12) as u16
+    ((term - numbers_of(calendar).rain_water) / 12) as u16
 }
 
 // The new moon of a month, before any advance.
@@ -249,7 +242,7 @@ pub fn new_moon(calendar: Calendar, month: u32) -> Moment
         },
         Calendar::Genka => Moment {
             units: genka::part_to_half_parts(genka::new_moon(month)).0,
-            of_day: HALF_PARTS_IN_DAY as u32,
+            of_day: HALF_PARTS_IN_DAY,
         },
     }
 }
@@ -260,12 +253,12 @@ pub fn full_moon(calendar: Calendar, month: u32) -> Moment
 {
     match calendar {
         Calendar::Senmyo => Moment {
-            units: senmyo::full_moon_fen(month).0,
+            units: units::byo_to_fen(senmyo::full_moon_sky(month).moment).0,
             of_day: FEN_IN_DAY as u32,
         },
         Calendar::Genka => Moment {
             units: genka::full_moon(month).0,
-            of_day: HALF_PARTS_IN_DAY as u32,
+            of_day: HALF_PARTS_IN_DAY,
         },
     }
 }

@@ -1,6 +1,6 @@
 -- What inner functions find, and what is asked of callers, so that every number fits its word. No rule of the calendar.
-use mathlib.Core.Bool.{Bool}
-use Prim.Native.Nat.{ℕ, _/_, _%_, _<_, _≤_}
+use mathlib.Core.Bool.{Bool, true, false}
+use Prim.Native.Nat.{ℕ, _+_, _-_, _/_, _%_, _<_, _≤_}
 use lib.Dec.{ltb}
 use lib.IntN.{ℤ, pos, natAbs, _+ℤ_, _*ℤ_}
 use lib.ListN.{getD}
@@ -10,46 +10,61 @@ use Rattle.units.specs.declared.AnomalySecond.{AnomalySecond}
 use Rattle.moon.specs.declared.SignedRow.{SignedRow}
 use Rattle.moon.specs.declared.HalfSecond.{HalfSecond}
 use Rattle.moon.specs.declared.RowPlace.{RowPlace}
-use Rattle.moon.specs.Moon.{Change, Gain, Loss, GainThenLoss, FirstLoss, MoonRow, rows, noRow, halfSeconds, dayHalfSeconds, halfPeriod, signed, inPeriod}
-
--- the change at the start of a row's day, gain positive and loss negative
-abbrev pub firstChange : Change → ℤ
-firstChange (Gain gain) = plus gain
-firstChange (Loss loss) = minus loss
-firstChange (GainThenLoss gain loss) = plus gain
-firstChange (FirstLoss loss) = minus loss
-
--- .. and at its end
-abbrev pub lastChange : Change → ℤ
-lastChange (Gain gain) = plus gain
-lastChange (Loss loss) = minus loss
-lastChange (GainThenLoss gain loss) = minus loss
-lastChange (FirstLoss loss) = minus loss
-
--- a row under the sign of a half
-abbrev pub signedRow : Bool → MoonRow → SignedRow
-signedRow upper w = (signed upper (firstChange (w .change)), signed upper (plus (w .sum)))
-
--- what follows the first change in a row's day: the last, and the sum before it
-abbrev pub afterFirst : Bool → MoonRow → SignedRow
-afterFirst upper w = (signed upper (lastChange (w .change)), signed upper (plus (w .sum)) +ℤ signed upper (firstChange (w .change)))
+use Rattle.moon.specs.declared.Stretch.{Stretch}
+use Rattle.moon.specs.declared.Stretch.the-variants.{WholeDay, GainingIn7, LosingIn7, DayOf14}
+use Rattle.moon.specs.declared.Stand.{Stand}
+use Rattle.moon.specs.Moon.{Change, Gain, Loss, GainThenLoss, FirstLoss, MoonRow, rows, noRow, halfSeconds, dayHalfSeconds, halfPeriod, gainingIn7, losingIn7, dayOf14, signed, inPeriod}
 
 -- a half's row of a day, from day 0
 abbrev pub rowIn : Bool → ℕ → MoonRow
 rowIn upper day = getD (rows upper) day noRow
 
--- a row by its place in both halves, one behind the other
-abbrev pub signedAt : ℕ → SignedRow
-signedAt place = signedRow (ltb place 14) (rowIn (ltb place 14) (place % 14))
+-- a stretch of a row under the sign of a half, and how far along it a moment stands
+abbrev pub stand : Bool → ℤ → ℕ → HalfSecond → Stretch → Stand
+stand upper change sum over stretch =
+    record { row = (signed upper change, signed upper (plus sum)); over = over; stretch = stretch }
+
+-- t into a row's day: row 7 loses from 7465 fen on
+unfoldable pub standIn : Bool → Change → ℕ → HalfSecond → Stand
+standIn upper (Gain gain) sum t = stand upper (plus gain) sum t WholeDay
+standIn upper (Loss loss) sum t = stand upper (minus loss) sum t WholeDay
+standIn upper (GainThenLoss gain loss) sum t =
+    elim (ltb (t .0) (gainingIn7 .0)) [
+      | true ↦ stand upper (plus gain) sum t GainingIn7
+      | false ↦ stand upper (minus loss) (sum + gain) (halfSeconds (t .0 - gainingIn7 .0)) LosingIn7
+    ]
+standIn upper (FirstLoss loss) sum t = stand upper (minus loss) sum t DayOf14
+
+-- t into a day of a half
+abbrev pub standOn : Bool → ℕ → HalfSecond → Stand
+standOn upper day t = let w : MoonRow = rowIn upper day in standIn upper (w .change) (w .sum) t
+
+-- a half's row as its day starts
+abbrev pub firstRow : Bool → ℕ → SignedRow
+firstRow upper day = standOn upper day (halfSeconds 0) .row
+
+-- .. by its place in both halves, one behind the other
+abbrev pub firstRowAt : ℕ → SignedRow
+firstRowAt place = firstRow (ltb place 14) (place % 14)
+
+-- how long a stretch is
+abbrev pub lengthOf : Stretch → HalfSecond
+lengthOf WholeDay = dayHalfSeconds
+lengthOf GainingIn7 = gainingIn7
+lengthOf LosingIn7 = losingIn7
+lengthOf DayOf14 = dayOf14
 
 -- sum + change × over/length, rounded
 abbrev pub roundedPart : SignedRow → HalfSecond → HalfSecond → ℤ
 roundedPart row over length = nearest (row .1 *ℤ pos (length .0) +ℤ row .0 *ℤ pos (over .0)) (length .0)
 
--- a change and a sum, and how far into how long a part of a day, of which that can be worked out
+-- the correction where a moment stands
+abbrev pub roundedAt : Stand → ℤ
+roundedAt s = roundedPart (s .row) (s .over) (lengthOf (s .stretch))
+
+-- a change and a sum, and how far along how long a stretch, of which that can be worked out
 pub record RoundableRow (row : SignedRow) (over length : HalfSecond) : Type 0 where
-  pub change-small : natAbs (row .0) ≤ 1000
-  pub sum-small : natAbs (row .1) ≤ 5000
+  pub row-small : natAbs (row .0) + natAbs (row .1) ≤ 5000
   pub over-small : over .0 ≤ dayHalfSeconds .0
   pub some : 0 < length .0
   pub length-small : length .0 ≤ dayHalfSeconds .0
@@ -64,7 +79,6 @@ placeOf at =
       over = halfSeconds (h % halfPeriod .0 % dayHalfSeconds .0);
     }
 
--- a day of a half, and how far into that day
-pub record InTable (day : ℕ) (over : HalfSecond) : Type 0 where
-  pub day-small : day < 14
-  pub over-small : over .0 < dayHalfSeconds .0
+-- where in the table a moment stands
+abbrev pub standAt : AnomalySecond → Stand
+standAt at = let p : RowPlace = placeOf at in standOn (p .upper) (p .day) (p .over)

@@ -2,13 +2,13 @@ use units::AnomalySecond;
 use units::FEN_IN_DAY;
 ghost use mathlib.Core.Path.{_≡_};
 ghost use Prim.Native.Nat.{_*_, _<_, _^_};
-ghost use Rattle.moon.specs.Moon.{secondsToHalfSeconds, signed, inRow, moonOf};
-ghost use Rattle.moon.specs.Room.{rowIn, signedRow, signedAt, lastChange, roundedPart, placeOf, RoundableRow, InTable};
+ghost use Rattle.moon.specs.Moon.{secondsToHalfSeconds, gainingIn7, moonOf};
+ghost use Rattle.moon.specs.Room.{standOn, firstRow, firstRowAt, lengthOf, roundedPart, roundedAt, placeOf, standAt, RoundableRow};
 
 // Half an anomaly second, 1/200 fen: the half period is not whole in anomaly seconds.
 struct HalfSecond(u64);
 
-// A row under the sign of its half, in fen: the change in its day (in row 7 the first), and the sum before it.
+// A row, or a part of row 7, under the sign of its half, in fen: its change, and the sum before it.
 struct SignedRow(i64, i64);
 
 // Where a moment stands: in which half, on which day of it, from 0, and how far into that day.
@@ -16,6 +16,21 @@ struct RowPlace {
     upper: bool,
     day: usize,
     over: HalfSecond,
+}
+
+// A stretch of the table along which the correction changes evenly: a day, a part of row 7, or what stands for a day in row 14.
+enum Stretch {
+    WholeDay,
+    GainingIn7,
+    LosingIn7,
+    DayOf14,
+}
+
+// A stretch, its change and sum, and how far along it a moment stands.
+struct Stand {
+    row: SignedRow,
+    over: HalfSecond,
+    stretch: Stretch,
 }
 
 const HALF_SECONDS_IN_SECOND: u64 = 2;
@@ -53,7 +68,7 @@ fn seconds_to_half_seconds(moment: AnomalySecond) -> HalfSecond
 // 003, Table 4, row by row: in the upper half a gain is positive and a loss negative; in the lower every sign is turned.
 fn signed_row(place: usize) -> SignedRow
     requires { ⌜ place < 28 ⌝ }
-    ensures { λ r. ⌜ r ≡ signedAt place ⌝ }
+    ensures { λ r. ⌜ r ≡ firstRowAt place ⌝ }
 {
     match place {
         // upper half
@@ -92,17 +107,19 @@ fn signed_row(place: usize) -> SignedRow
 // One look-up, whichever half: which one is as good as chance, and a branch on it would be mispredicted every other time.
 fn row_of(upper: bool, day: usize) -> SignedRow
     requires { ⌜ day < 14 ⌝ }
-    ensures { λ r. ⌜ r ≡ signedRow upper (rowIn upper day) ⌝ }
+    ensures { λ r. ⌜ r ≡ firstRow upper day ⌝ }
 {
     let place = if upper { day } else { ROWS_IN_HALF + day };
     signed_row(place)
 }
 
-// The change at the end of row 7, under the sign of its half.
-fn last_in_7(upper: bool) -> i64
-    ensures { λ r. ⌜ r ≡ signed upper (lastChange (rowIn upper 6 .change)) ⌝ }
+// Row 7 where it loses, from the sum that its gain leads to.
+fn losing_row(upper: bool) -> SignedRow
+    ensures { λ r. ⌜ r ≡ standOn upper 6 gainingIn7 .row ⌝ }
 {
-    if upper { -7 } else { 7 }
+    let row = row_of(upper, DAY_7);
+    let loss = if upper { -7 } else { 7 };
+    SignedRow(loss, row.1 + row.0)
 }
 
 // sum + change × over / length, rounded.
@@ -112,34 +129,6 @@ fn rounded(row: SignedRow, over: HalfSecond, length: HalfSecond) -> i64
 {
     let numerator = row.1 * (length.0 as i64) + row.0 * (over.0 as i64);
     numbers::nearest_of(numerator, length.0)
-}
-
-// The correction so far into row 7, which gains first and then loses.
-fn in_row_7(upper: bool, over: HalfSecond) -> i64
-    requires { ⌜ InTable 6 over ⌝ }
-    ensures { λ r. ⌜ r ≡ inRow upper (rowIn upper 6) over ⌝ }
-{
-    let row = row_of(upper, DAY_7);
-    if over.0 <= GAINING_IN_7.0 {
-        return rounded(row, over, GAINING_IN_7);
-    }
-    let end = SignedRow(last_in_7(upper), row.1 + row.0);
-    rounded(end, HalfSecond(over.0 - GAINING_IN_7.0), LOSING_IN_7)
-}
-
-// The correction so far into a row. Each way names its length, so that the compiler divides by constants alone.
-fn in_row(upper: bool, day: usize, over: HalfSecond) -> i64
-    requires { ⌜ InTable day over ⌝ }
-    ensures { λ r. ⌜ r ≡ inRow upper (rowIn upper day) over ⌝ }
-{
-    if day == DAY_7 {
-        return in_row_7(upper, over);
-    }
-    let row = row_of(upper, day);
-    if day == DAY_14 {
-        return rounded(row, over, DAY_OF_14);
-    }
-    rounded(row, over, DAY)
 }
 
 fn place_of(at: AnomalySecond) -> RowPlace
@@ -154,10 +143,49 @@ fn place_of(at: AnomalySecond) -> RowPlace
     }
 }
 
+// Where in the table a moment stands. At 7465 fen of row 7 that is the loss already.
+fn stand_at(at: AnomalySecond) -> Stand
+    ensures { λ r. ⌜ r ≡ standAt at ⌝ }
+{
+    let place = place_of(at);
+    let over = place.over;
+    if place.day == DAY_7 {
+        if over.0 < GAINING_IN_7.0 {
+            let row = row_of(place.upper, DAY_7);
+            let stretch = Stretch::GainingIn7;
+            return Stand { row, over, stretch };
+        }
+        let row = losing_row(place.upper);
+        let over = HalfSecond(over.0 - GAINING_IN_7.0);
+        let stretch = Stretch::LosingIn7;
+        return Stand { row, over, stretch };
+    }
+    let row = row_of(place.upper, place.day);
+    if place.day == DAY_14 {
+        let stretch = Stretch::DayOf14;
+        return Stand { row, over, stretch };
+    }
+    let stretch = Stretch::WholeDay;
+    Stand { row, over, stretch }
+}
+
+// The correction where a moment stands. Each way names its length, so that the compiler divides by constants alone.
+fn rounded_at(stand: Stand) -> i64
+    requires { ⌜ RoundableRow (stand .row) (stand .over) (lengthOf (stand .stretch)) ⌝ }
+    ensures { λ r. ⌜ r ≡ roundedAt stand ⌝ }
+{
+    let stretch = stand.stretch;
+    match stretch {
+        Stretch::WholeDay => rounded(stand.row, stand.over, DAY),
+        Stretch::GainingIn7 => rounded(stand.row, stand.over, GAINING_IN_7),
+        Stretch::LosingIn7 => rounded(stand.row, stand.over, LOSING_IN_7),
+        Stretch::DayOf14 => rounded(stand.row, stand.over, DAY_OF_14),
+    }
+}
+
 // The Moon's correction at a moment counted from the start of the count, in fen.
 pub fn moon_of(at: AnomalySecond) -> i64
     ensures { λ r. ⌜ r ≡ moonOf at ⌝ }
 {
-    let place = place_of(at);
-    in_row(place.upper, place.day, place.over)
+    rounded_at(stand_at(at))
 }

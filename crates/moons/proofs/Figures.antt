@@ -10,8 +10,8 @@ use Rattle.units.specs.Units.{fen}
 use Rattle.julian.specs.Julian.{rounded, instant}
 use Rattle.eclipse.specs.declared.Side.the-variants.{Yin}
 use Rattle.eclipse.specs.Eclipse.{partial, nodePlace, distanceOf, nodeOf, gradeOf}
-use Rattle.senmyo.specs.Phases.{corrections, fullMoon}
-use Rattle.senmyo.specs.FullMoons.{nodePlaceAt}
+use Rattle.senmyo.specs.Phases.{corrections}
+use Rattle.senmyo.specs.FullMoons.{fullMoonSky}
 use Rattle.senmyo.proofs.Worked.{sunAt, moonAt, dayAt}
 use Rattle.months.specs.Rules.{senmyo, genka, rulesOf}
 use Rattle.months.proofs.Calendars.{senmyo-steady, genka-steady}
@@ -23,7 +23,7 @@ use Rattle.moons.specs.Instants.{instantIn, ofMonth, newMoonOf, fullMoon
 
 -- 1522 month 2: full moon 6215 fen, node distance 2241, yin ..
 moon-1522 : fullMoonAt 87454579 ≡ record { day = 2277039; fen = fen 6215; side = Yin; distance = fen 2241 }
-unfolding fullMoonAt sunAt moonAt corrections fullMoon nodePlaceAt nodePlace modulo nodeOf distanceOf
+unfolding fullMoonAt sunAt moonAt corrections fullMoonSky nodePlace modulo nodeOf distanceOf
 moon-1522 = refl
 
 -- .. 14 parts, remainder 412, strong
@@ -63,7 +63,7 @@ new-moon-1522 = rw (month-with senmyo senmyo-steady 87454582 (senmyo .rainWater 
 
 -- month 2: the full moon of its eclipse
 full-moon-1522 : fullMoonOf 1 1522 2 false ≡ given (instant 2277039 6215 8400)
-unfolding asking ofMonth fullMoonOf rulesOf instantIn dayAt sunAt moonAt corrections fullMoon
+unfolding asking ofMonth fullMoonOf rulesOf instantIn dayAt sunAt moonAt corrections fullMoonSky
 full-moon-1522 = rw (month-with senmyo senmyo-steady 87454579 (senmyo .rainWater 1522 + 1) tt)
 
 -- 643 month 5 opens on day 1956057; its full moon is half a month later

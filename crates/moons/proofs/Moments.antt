@@ -4,7 +4,7 @@ use Prim.Native.Nat.{ℕ, _+_, _%_, _<_, _≤_, _^_}
 use native.Mathlib.Nat.{mod-lt}
 use native.Mathlib.Omega.{arith}
 use Rattle.units.specs.Units.{wholeDays}
-use Rattle.senmyo.specs.Phases.{fullMoonFen}
+use Rattle.senmyo.specs.FullMoons.{fullMoonFen}
 use Rattle.months.specs.declared.Calendar.{Calendar}
 use Rattle.months.specs.declared.Calendar.the-variants.{Senmyo, Genka}
 use Rattle.months.specs.declared.Moment.{Moment}

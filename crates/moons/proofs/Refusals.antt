@@ -10,7 +10,7 @@ use Rattle.answers.proofs.Conditions.{given-exactly, refused-exactly}
 use Rattle.units.specs.Units.{dayFen}
 use Rattle.eclipse.specs.Eclipse.{Graded}
 use Rattle.eclipse.proofs.NodeLaws.{distance-small}
-use Rattle.senmyo.specs.FullMoons.{nodePlaceAt}
+use Rattle.senmyo.specs.FullMoons.{fullMoonSky}
 use Rattle.months.specs.Rules.{Rules}
 use Rattle.asked.specs.Asked.{isCalendar, rulesFor, isCovered, monthNamed, hasMonth, monthConditions}
 use Rattle.moons.specs.declared.FullMoon.{FullMoon}
@@ -74,7 +74,7 @@ pub record Bounded (m : FullMoon) : Type 0 where
 
 at-full-moon : (k : ℕ) → Bounded (fullMoonAt k)
 unfolding fullMoonAt
-at-full-moon k = record { fen-below = mod-lt _ (omega arith); distance-below = distance-small (nodePlaceAt k) }
+at-full-moon k = record { fen-below = mod-lt _ (omega arith); distance-below = distance-small (fullMoonSky k .node) }
 
 pub moon-bounded : (c y m : ℕ) (leap : Bool) (e : FullMoon × Graded) → eclipseOf c y m leap ≡ given e → Bounded (e .0)
 moon-bounded c y m leap e h = rw (sym (eclipse-given c y m leap e .only-if h .1)) (at-full-moon _)

@@ -7,8 +7,7 @@ use Rattle.answers.specs.Answer.{Answer}
 use Rattle.answers.specs.Conditions.{asking}
 use Rattle.units.specs.Units.{wholeDays, fenOfDay}
 use Rattle.eclipse.specs.Eclipse.{Graded, gradeOf}
-use Rattle.senmyo.specs.Phases.{fullMoonFen}
-use Rattle.senmyo.specs.FullMoons.{nodeAt}
+use Rattle.senmyo.specs.FullMoons.{fullMoonFen, fullMoonNode}
 use Rattle.months.specs.Rules.{senmyo, dayNumber}
 use Rattle.asked.specs.Asked.{rulesFor, isCovered, monthNamed, hasMonth, calendarConditions}
 use Rattle.moons.specs.declared.FullMoon.{FullMoon}
@@ -19,8 +18,8 @@ fullMoonAt k =
     record {
       day = dayNumber senmyo (wholeDays (fullMoonFen k));
       fen = fenOfDay (fullMoonFen k);
-      side = nodeAt k .side;
-      distance = nodeAt k .distance;
+      side = fullMoonNode k .side;
+      distance = fullMoonNode k .distance;
     }
 
 -- .. and then none, total, or partial

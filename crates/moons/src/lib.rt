@@ -53,13 +53,14 @@ fn full_moon_at(month: u32) -> FullMoon
     requires { ⌜ Covering senmyo month ⌝ }
     ensures { λ r. ⌜ r ≡ fullMoonAt month ⌝ }
 {
-    let moon = senmyo::full_moon_fen(month);
-    let node = senmyo::node(month);
+    let sky = senmyo::full_moon_sky(month);
+    let moment = units::byo_to_fen(sky.moment);
+    let node = eclipse::node_of(sky.node);
     let side = node.side;
     let distance = node.distance;
     FullMoon {
-        day: (units::whole_days(moon) - months::day_zero(Calendar::Senmyo)) as u32,
-        fen: units::fen_of_day(moon),
+        day: (units::whole_days(moment) - months::numbers_of(Calendar::Senmyo).day_zero) as u32,
+        fen: units::fen_of_day(moment),
         side,
         distance,
     }
@@ -85,7 +86,7 @@ fn instant_of(calendar: Calendar, moment: Moment) -> f64
     requires { ⌜ Dated (rulesOf calendar) moment ⌝ }
     ensures { λ r. ⌜ r ≡ instantIn (rulesOf calendar) moment ⌝ }
 {
-    let day = moment.units / (moment.of_day as u64) - months::day_zero(calendar);
+    let day = moment.units / (moment.of_day as u64) - months::numbers_of(calendar).day_zero;
     let part = moment.units % (moment.of_day as u64);
     julian::julian_date(day as u32, part as u32, moment.of_day)
 }

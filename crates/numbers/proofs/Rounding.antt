@@ -3,10 +3,10 @@ use mathlib.Core.Path.{_≡_, refl, sym, ap}
 use mathlib.Core.List.{[], _∷_, map}
 use mathlib.Core.Bool.{Bool, _&&_}
 use Prim.Native.Nat.{ℕ, suc, _+_, _-_, _*_, _/_, _%_, _<_, _≤_}
-use native.Mathlib.Nat.{add-mul, suc-mul, mul-le-mul-left, one-mul, zero-mul, mod-lt, div-add-mod', div-mul-le-self, le-div-iff-mul-le, le-trans, mod-eq-of-lt, add-mod-left}
+use native.Mathlib.Nat.{add-mul, suc-mul, div-eq-of-lt-le, mul-le-mul-left, one-mul, zero-mul, mod-lt, div-add-mod', div-mul-le-self, le-div-iff-mul-le, le-trans, mod-eq-of-lt, add-mod-left}
 use native.Mathlib.Omega.{arith}
 use lib.Dec.{T, leb→le, le→leb}
-use lib.IntN.{ℤ, pos, negsuc, _+ℤ_, _*ℤ_}
+use lib.IntN.{ℤ, pos, negsuc, negℤ, _+ℤ_, _*ℤ_}
 use lib.Signed.{_≤ℤ_, leZ, leZ-yes}
 use mir.Facts.{and-yes}
 use Rattle.numbers.specs.Sign.{plus, minus}
@@ -36,6 +36,16 @@ nearest-mono d p h = floor-mono (2 * d) (omega arith) (≤ℤ-add (≤ℤ-mul 2 
 pub nearest-pos : (n d : ℕ) → pos 0 ≤ℤ nearest (pos n) d
 unfolding nearest
 nearest-pos n d = pos-le (omega arith)
+
+-- what is whole is rounded to itself
+pub nearest-whole : (z : ℤ) (d : ℕ) → 0 < d → nearest (z *ℤ pos d) d ≡ z
+unfolding nearest
+nearest-whole (pos n) d some = ap pos (div-eq-of-lt-le (2 * d) (omega arith) (omega (arith, add-mul n 1 (2 * d))))
+nearest-whole (negsuc n) d some =
+    let m = n * (2 * d) + (d - 1) in
+    let told = is-add (is-mul 2 (is-neg (is-pos (suc n * d)))) (is-pos d) in
+    let below : negℤ (pos (suc n * d)) *ℤ pos 2 +ℤ pos d ≡ negsuc m = is-same told (is-neg (is-pos (suc m))) (omega (arith, suc-mul n d)) in
+    rw below (ap negsuc (div-eq-of-lt-le (2 * d) (omega arith) (omega (arith, add-mul n 1 (2 * d)))))
 
 -- the floor is at most the quotient ..
 pub floor-low : (z : ℤ) (d : ℕ) → 0 < d → (floor z d *ℤ pos d) ≤ℤ z

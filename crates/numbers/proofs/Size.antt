@@ -39,9 +39,6 @@ negated-size (pos zero) = refl
 negated-size (pos (suc n)) = refl
 negated-size (negsuc n) = refl
 
-pub small-neg : {z : ℤ} {n : ℕ} → Small z n → Small (negℤ z) n
-small-neg {z} s = record { size = rw (negated-size z) (s .size) }
-
 size-times : (z : ℤ) (n : ℕ) → natAbs (z *ℤ pos n) ≡ natAbs z * n
 size-times (pos m) n = refl
 size-times (negsuc m) n = negated-size (pos (suc m * n))

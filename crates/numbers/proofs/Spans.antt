@@ -13,10 +13,6 @@ pub record Growing (f : ℕ → ℕ) : Type 0 where
   pub zeroth : f 0 ≡ 0
   pub grows : (n : ℕ) → f n < f (n + 1)
 
--- spans that take something grow
-pub growing : (f : ℕ → ℕ) (a b : ℕ) → f 0 ≡ 0 → 0 < a → ((n : ℕ) → Takes f n a b) → Growing f
-growing f a b z h t = record { zeroth = z; grows = λ n. omega (arith, h, t n .at-least) }
-
 -- n spans that take a to b each take a × n to b × n
 pub record Together (f : ℕ → ℕ) (a b k n : ℕ) : Type 0 where
   pub at-least : f k + a * n ≤ f (k + n)

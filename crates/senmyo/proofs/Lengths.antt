@@ -11,7 +11,8 @@ use Rattle.numbers.proofs.Spans.{Growing}
 use Rattle.numbers.proofs.Tests.{everyTwo, at-each-two}
 use Rattle.units.specs.Units.{wholeDays}
 use Rattle.means.specs.Means.{meanFullMoon, midTermDay, rainWater}
-use Rattle.senmyo.specs.Phases.{newMoon, newMoonDay, fullMoonFen}
+use Rattle.senmyo.specs.Phases.{newMoon, newMoonDay}
+use Rattle.senmyo.specs.FullMoons.{fullMoonFen}
 use Rattle.senmyo.specs.Room.{latestMonth, sureMonth}
 use Rattle.senmyo.proofs.Worked.{dayAt}
 use Rattle.senmyo.proofs.PhaseLaws.{corrections-between, new-moon-exact, full-moon-exact, advance-is-floor}

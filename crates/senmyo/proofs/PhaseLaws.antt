@@ -11,15 +11,18 @@ use Rattle.numbers.specs.Sign.{minus, whole}
 use Rattle.numbers.specs.Between.{Between}
 use Rattle.numbers.proofs.Difference.{is-pos, is-add, is-mul, is-parts}
 use Rattle.numbers.proofs.Order.{is-le, le-is, pos-le, ≤ℤ-add, ≤ℤ-mul}
-use Rattle.numbers.proofs.Size.{Small, small-between}
+use Rattle.numbers.proofs.Size.{Small, small-between, small-mul, word, Worked, told-word}
 use Rattle.units.specs.declared.Byo.{Byo}
 use Rattle.units.specs.declared.Fen.{Fen}
 use Rattle.units.specs.declared.AnomalySecond.{AnomalySecond}
 use Rattle.units.specs.Units.{fen, fenToByo, byoToAnomalySeconds, wholeDays, fenOfDay, dayByo}
+use Rattle.eclipse.specs.Eclipse.{nodePeriod}
+use Rattle.eclipse.proofs.NodeLaws.{place-within}
 use Rattle.means.specs.Means.{meanNewMoon, meanFullMoon}
 use Rattle.sun.specs.Sun.{sunOf}
 use Rattle.moon.specs.Moon.{moonOf}
-use Rattle.senmyo.specs.Phases.{corrections, correctionToByo, newMoon, advancedDay, fullMoon}
+use Rattle.senmyo.specs.Phases.{corrections, newMoon, advancedDay}
+use Rattle.senmyo.specs.FullMoons.{correctionToByo, fullMoonSky}
 use Rattle.sun.proofs.Bounds.{sun-bounds, sun-first-day}
 use Rattle.moon.proofs.Rows.{moon-bounds, moon-first-day}
 
@@ -29,6 +32,13 @@ sun-small m = small-between 1526 1526 (sun-bounds m)
 pub moon-small : (a : AnomalySecond) → Small (moonOf a) (3195 + 3225)
 moon-small a = small-between 3195 3225 (moon-bounds a)
 
+-- each is read back from its word as it is
+pub sun-word : (m : Byo) → word (sunOf m) ≡ sunOf m
+sun-word m = told-word refl (sun-small m) (omega arith) .same
+
+pub moon-word : (a : AnomalySecond) → word (moonOf a) ≡ moonOf a
+moon-word a = told-word refl (moon-small a) (omega arith) .same
+
 -- both together lie between the sums of their bounds
 pub corrections-between : (m : Byo) → Between (minus 4721) (corrections m) (pos 4751)
 unfolding corrections
@@ -37,8 +47,16 @@ corrections-between m =
     let moon = moon-bounds (byoToAnomalySeconds m) in
     record { from = ≤ℤ-add (sun .from) (moon .from); to = ≤ℤ-add (sun .to) (moon .to) }
 
-pub corrections-small : (m : Byo) → Small (corrections m) (4721 + 4751)
+corrections-small : (m : Byo) → Small (corrections m) (4721 + 4751)
 corrections-small m = small-between 4721 4751 (corrections-between m)
+
+-- .. as the code adds them, and in byo
+pub together : (m : Byo) → Worked (word (sunOf m) +ℤ word (moonOf (byoToAnomalySeconds m))) (corrections m) (4721 + 4751)
+unfolding corrections
+together m = record { same = rw (sun-word m, moon-word (byoToAnomalySeconds m)); small = corrections-small m }
+
+pub in-byo : (m : Byo) → Small (correctionToByo (corrections m)) ((4721 + 4751) * 8)
+in-byo m = small-mul 8 8 (omega arith) (corrections-small m)
 
 -- on the first day of the count they are not below zero, and later they take no more than there is
 pub after-start : (m : Byo) → pos 0 ≤ℤ (pos (m .0) +ℤ correctionToByo (corrections m))
@@ -66,13 +84,18 @@ whole-exact (pos n) h = refl
 whole-exact (negsuc n) h = absurd (h .le)
 
 -- nothing is cut off where the definitions go from a signed number to a natural
-pub full-moon-exact : (k : ℕ) → pos (fullMoon k .0) ≡ pos (meanFullMoon k .0) +ℤ correctionToByo (corrections (meanFullMoon k))
-unfolding fullMoon
+pub full-moon-exact : (k : ℕ) → pos (fullMoonSky k .moment .0) ≡ pos (meanFullMoon k .0) +ℤ correctionToByo (corrections (meanFullMoon k))
+unfolding corrections fullMoonSky
 full-moon-exact k = whole-exact _ (after-start (meanFullMoon k))
 
 pub new-moon-exact : (k : ℕ) → pos (newMoon k .0) ≡ pos (meanNewMoon k .0) +ℤ corrections (fenToByo (meanNewMoon k))
 unfolding newMoon
 new-moon-exact k = whole-exact _ (new-moon-after-start k)
+
+-- the node's place is within its period
+pub node-within : (k : ℕ) → fullMoonSky k .node .0 < nodePeriod .0
+unfolding fullMoonSky
+node-within k = place-within _ _ _
 
 -- ---- the advance
 

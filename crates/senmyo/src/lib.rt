@@ -1,12 +1,7 @@
-use eclipse::Node;
 use eclipse::NodeSecond;
 use means::MONTH;
 pub use means::mean_full_moon;
 pub use means::mean_new_moon;
-pub use means::mid_term;
-pub use means::mid_term_by;
-pub use means::mid_term_day;
-pub use means::rain_water;
 pub use moon::moon_of;
 pub use sun::sun_of;
 use units::BYO_IN_FEN;
@@ -16,8 +11,9 @@ use units::Fen;
 ghost use mathlib.Core.Path.{_≡_};
 ghost use Prim.Native.Nat.{_<_, _≤_, _^_};
 ghost use lib.IntN.{pos, natAbs, _+ℤ_};
-ghost use Rattle.senmyo.specs.Phases.{corrections, correctionToByo, newMoon, advancedDay, newMoonDay, fullMoon, fullMoonFen};
-ghost use Rattle.senmyo.specs.FullMoons.{nodePlaceAt, nodeAt};
+ghost use Rattle.numbers.specs.Sign.{whole};
+ghost use Rattle.senmyo.specs.Phases.{moonAt, newMoon, advancedDay, newMoonDay};
+ghost use Rattle.senmyo.specs.FullMoons.{correctionToByo, fullMoonSky};
 ghost use Rattle.senmyo.specs.Room.{latestMonth, sureMonth, Movable};
 
 // From this fen of its day on, a new moon counts to the next day.
@@ -28,13 +24,21 @@ const MOST_EARLY: u64 = 1526 + 3195;
 
 const MOST_LATE: u64 = 1526 + 3225;
 
-// Both corrections together, in fen. Both are taken at the mean moment.
-fn correction(mean: Byo) -> i64
+// A full moon as the sky has it: its mean moment, the corrections at that moment, in fen, the true moment, exactly, and the place from the node.
+pub struct Sky {
+    pub mean: Byo,
+    pub sun: i64,
+    pub moon: i64,
+    pub moment: Byo,
+    pub node: NodeSecond,
+}
+
+// The Moon's correction at a mean moment, in fen. (The Sun's is `sun_of`.)
+fn moon_at(mean: Byo) -> i64
     requires { ⌜ mean .0 < 2 ^ 57 ⌝ }
-    ensures { λ r. ⌜ r ≡ corrections mean ⌝ }
+    ensures { λ r. ⌜ r ≡ moonAt mean ⌝ }
 {
-    let sun = sun_of(mean);
-    sun + moon_of(units::byo_to_anomaly_seconds(mean))
+    moon_of(units::byo_to_anomaly_seconds(mean))
 }
 
 fn correction_to_byo(fen: i64) -> i64
@@ -47,7 +51,7 @@ fn correction_to_byo(fen: i64) -> i64
 // A count, and a signed one of the same unit that moves it.
 fn moved(count: u64, by: i64) -> u64
     requires { ⌜ Movable count by ⌝ }
-    ensures { λ r. ⌜ pos r ≡ pos count +ℤ by ⌝ }
+    ensures { λ r. ⌜ r ≡ whole (pos count +ℤ by) ⌝ }
 {
     (count as i64 + by) as u64
 }
@@ -57,7 +61,9 @@ pub fn new_moon(number: u32) -> Fen
     ensures { λ r. ⌜ r ≡ newMoon number ⌝ }
 {
     let mean = mean_new_moon(number);
-    Fen(moved(mean.0, correction(units::fen_to_byo(mean))))
+    let at = units::fen_to_byo(mean);
+    let sun = sun_of(at);
+    Fen(moved(mean.0, sun + moon_at(at)))
 }
 
 // The day to which a new moon at this moment counts, in whole days from the start of the count.
@@ -89,33 +95,20 @@ pub fn sure_month(day: u32) -> u32
     ((FEN_IN_DAY * (day as u64) + ADVANCE - MOST_LATE - 1) / MONTH.0) as u32
 }
 
-// The full moon after new moon `number`, exactly.
-pub fn full_moon(number: u32) -> Byo
-    ensures { λ r. ⌜ r ≡ fullMoon number ⌝ }
+// The sky at the full moon after new moon `number`.
+pub fn full_moon_sky(number: u32) -> Sky
+    ensures { λ r. ⌜ r ≡ fullMoonSky number ⌝ }
 {
     let mean = mean_full_moon(number);
-    Byo(moved(mean.0, correction_to_byo(correction(mean))))
-}
-
-// The same in whole fen.
-pub fn full_moon_fen(number: u32) -> Fen
-    ensures { λ r. ⌜ r ≡ fullMoonFen number ⌝ }
-{
-    units::byo_to_fen(full_moon(number))
-}
-
-// The place from the node at that full moon, by its mean moment and the corrections taken there.
-pub fn node_place(number: u32) -> NodeSecond
-    ensures { λ r. ⌜ r ≡ nodePlaceAt number ⌝ }
-{
-    let mean = mean_full_moon(number);
-    let moon = moon_of(units::byo_to_anomaly_seconds(mean));
-    eclipse::node_place(mean, sun_of(mean), moon)
-}
-
-// The side of that place, and its distance from the node.
-pub fn node(number: u32) -> Node
-    ensures { λ r. ⌜ r ≡ nodeAt number ⌝ }
-{
-    eclipse::node_of(node_place(number))
+    let sun = sun_of(mean);
+    let moon = moon_at(mean);
+    let moment = Byo(moved(mean.0, correction_to_byo(sun + moon)));
+    let node = eclipse::node_place(mean, sun, moon);
+    Sky {
+        mean,
+        sun,
+        moon,
+        moment,
+        node,
+    }
 }

@@ -2,7 +2,7 @@
 use mathlib.Core.Path.{_≡_, refl}
 use Prim.Native.Nat.{ℕ, _+_, _-_}
 use lib.Dec.{T}
-use Rattle.months.specs.Rules.{senmyo}
+use Rattle.months.specs.Rules.{mid, senmyo}
 use Rattle.months.proofs.Calendars.{senmyo-steady}
 use Rattle.months.proofs.Figures.{hasTest, month-with}
 use Rattle.asked.specs.Asked.{regularMonth}
@@ -12,7 +12,7 @@ use Rattle.calendar.proofs.Figures.{months-643, day-643}
 use Rattle.worked.specs.Worked.{Every, Solstice, Sun, Moon, Advance, Month1413, Eclipse, Year643, eight}
 
 -- month m of 1522 has the new moon of that number
-month-1522 : (m : ℕ) → T (hasTest senmyo (87454577 + m) (senmyo .mid (senmyo .rainWater 1522 + (m - 1)))) → regularMonth senmyo 1522 m ≡ 87454577 + m
+month-1522 : (m : ℕ) → T (hasTest senmyo (87454577 + m) (mid senmyo (senmyo .rainWater 1522 + (m - 1)))) → regularMonth senmyo 1522 m ≡ 87454577 + m
 month-1522 m t = month-with senmyo senmyo-steady (87454577 + m) (senmyo .rainWater 1522 + (m - 1)) t
 
 month-11 : regularMonth senmyo 1521 11 ≡ 87454576

@@ -19,24 +19,24 @@ known c = rw (← c .before .before .before .asked-calendar .ensures, c .before 
 returns-2 : tie.Need-returns-2
 unfolding asking
 returns-2 c =
-    let years = c .before .before in
-    rw (year-asked, known (years .before), lt-leb _ _ (rw (years .covered-years .ensures) at (c .if1 .taken)))
+    let numbers = c .before .before in
+    rw (year-asked, known (numbers .before), lt-leb _ _ (rw (numbers .numbers-of .ensures) at (c .if1 .taken)))
 
 returns-3 : tie.Need-returns-3
 unfolding asking
 returns-3 c =
     let from = c .before .before in
-    let years = from .before .before in
-    let bounds = years .covered-years .ensures in
-    rw (year-asked, known (years .before), le-leb _ _ (rw bounds at (from .if1 .left)), lt-leb _ _ (rw bounds at (c .if2 .taken)))
+    let numbers = from .before .before in
+    let bounds = numbers .numbers-of .ensures in
+    rw (year-asked, known (numbers .before), le-leb _ _ (rw bounds at (from .if1 .left)), lt-leb _ _ (rw bounds at (c .if2 .taken)))
 
 returns-4 : tie.Need-returns-4
 unfolding asking
 returns-4 c =
     let from = c .before .before in
-    let years = from .before .before in
-    let bounds = years .covered-years .ensures in
-    rw (year-asked, known (years .before), le-leb _ _ (rw bounds at (from .if1 .left)), le-leb _ _ (rw bounds at (c .if2 .left)))
+    let numbers = from .before .before in
+    let bounds = numbers .numbers-of .ensures in
+    rw (year-asked, known (numbers .before), le-leb _ _ (rw bounds at (from .if1 .left)), le-leb _ _ (rw bounds at (c .if2 .left)))
 
 pub asked-year-spec : {M : Type 1} → statement M
 asked-year-spec =

@@ -7,6 +7,7 @@ use borrow.Author.Tests.{le-leb, lt-leb, lt-ltb, le-ltb}
 use Rattle.answers.specs.Answer.{given}
 use Rattle.answers.specs.Conditions.{asking}
 use Rattle.months.specs.Rules.{rulesOf}
+use Rattle.months.specs.Room.{numbersOf}
 use Rattle.months.proofs.CoveredYears.{edges}
 use Rattle.asked.specs.Asked.{calendarOf}
 use Rattle.calendar.specs.Room.{CoveredDay}
@@ -25,46 +26,49 @@ calendar-asked c = rw (← c .before .before .before .asked-calendar .ensures, c
 returns-2 : tie.Need-returns-2
 unfolding asking
 returns-2 c =
-    let days = c .before .before in
-    rw (date-asked, calendar-asked (days .before), lt-leb _ _ (rw (days .covered-days .ensures) at (c .if1 .taken)))
+    let n = c .before .before in
+    rw (date-asked, calendar-asked (n .before), lt-leb _ _ (rw (n .numbers-of .ensures) at (c .if1 .taken)))
 
 returns-3 : tie.Need-returns-3
 unfolding asking
 returns-3 c =
     let from = c .before .before in
-    let days = from .before .before in
-    let bounds = days .covered-days .ensures in
-    rw (date-asked, calendar-asked (days .before), le-leb _ _ (rw bounds at (from .if1 .left)), le-ltb _ _ (rw bounds at (c .if2 .taken)))
+    let n = from .before .before in
+    let told = n .numbers-of .ensures in
+    let day = n .before .before .before .before .before .args .day in
+    let after = numbersOf (rulesOf (n .before .before .asked .given .0 .0)) .«after_last» in
+    let late = le-ltb day after (omega (arith, rw told at (c .if2 .taken))) in
+    rw (date-asked, calendar-asked (n .before), le-leb _ _ (rw told at (from .if1 .left)), late)
 
 -- the day is covered
-covered : (c : tie.After-day-zero) → let at = c .before .before .before .before .before .before .before .before .before .before .args in
-    CoveredDay (rulesOf (c .before .before .before .before .before .before .before .asked .given .0 .0)) (at .day + c .day-zero .result)
+covered : (c : tie.Else2) → let n = c .before .before .before .before in
+    CoveredDay (rulesOf (n .before .before .asked .given .0 .0)) (n .before .before .before .before .before .args .day + n .numbers-of .result .«day_zero»)
 covered c =
-    let from = c .before .before .before in
-    let days = from .before .before in
-    let first = rw (days .covered-days .ensures) at (from .if1 .left) in
-    let after = rw (days .covered-days .ensures) at (c .before .if2 .left) in
-    record { from = omega (arith, first, c .day-zero .ensures); to = omega (arith, after, c .day-zero .ensures) }
+    let from = c .before .before in
+    let told = from .before .before .numbers-of .ensures in
+    let first = rw told at (from .if1 .left) in
+    let after = rw told at (c .if2 .left) in
+    rw told (record { from = omega (arith, first); to = omega (arith, after) })
 
-in-word : (c : tie.After-day-zero) → let at = c .before .before .before .before .before .before .before .before .before .before .args in
-    at .day + c .day-zero .result < 2 ^ 32
+in-word : (c : tie.Else2) → let n = c .before .before .before .before in
+    n .before .before .before .before .before .args .day + n .numbers-of .result .«day_zero» < 2 ^ 32
 in-word c =
-    let k = c .before .before .before .before .before .before .before .asked .given .0 .0 in
+    let k = c .before .before .before .before .before .before .asked .given .0 .0 in
     omega (arith, covered c .to, edges k .last-day, edges k .day-zero)
 
 date-in-requires : tie.Need-date-in-requires
-date-in-requires c κs = covered c
+date-in-requires c κs = covered (c .before)
 
 returns-4 : tie.Need-returns-4
 unfolding asking
 returns-4 c =
     let to = c .before .before in
     let from = to .before .before in
-    let days = from .before .before in
-    let bounds = days .covered-days .ensures in
-    let low = le-leb _ _ (rw bounds at (from .if1 .left)) in
-    let high = lt-ltb _ _ (rw bounds at (to .if2 .left)) in
-    rw (date-asked, calendar-asked (days .before), low, high, c .date-in .ensures, c .before .day-zero .ensures)
+    let n = from .before .before in
+    let told = n .numbers-of .ensures in
+    let low = le-leb _ _ (rw told at (from .if1 .left)) in
+    let high = lt-ltb _ _ (rw told at (to .if2 .left)) in
+    rw (date-asked, calendar-asked (n .before), low, high, c .date-in .ensures, told)
 
 pub date-of-spec : {M : Type 1} → statement M
 date-of-spec =
@@ -78,8 +82,7 @@ date-of-spec =
     (λ c κs. search needs)
     returns-2
     returns-3
-    (λ c κs. search needs)
-    (λ c. omega (arith, in-word c))
-    (λ c. omega (arith, in-word c))
+    (λ c. omega (arith, in-word (c .before)))
+    (λ c. omega (arith, in-word (c .before)))
     date-in-requires
     returns-4)

@@ -44,13 +44,15 @@ add-t10 : tie.Need-add-t10
 add-t10 c = let d = day-in (c .before) in omega (arith, d .to, d .start-to, d .zero-to)
 
 sub-t13 : tie.Need-sub-t13
-sub-t13 c = let d = day-in (c .before .before) in omega (arith, c .day-zero .ensures, d .from, d .start-from)
+sub-t13 c = let d = day-in (c .before .before .before) in rw (c .before .numbers-of .ensures) (omega (arith, d .from, d .start-from))
 
 cast-t14 : tie.Need-cast-t14
-cast-t14 c = let d = day-in (c .before .before) in omega (arith, c .day-zero .ensures, d .from, d .to, d .start-from, d .start-to)
+cast-t14 c =
+    let d = day-in (c .before .before .before) in
+    rw (c .before .numbers-of .ensures) (omega (arith, d .from, d .to, d .start-from, d .start-to))
 
 returns-2 : tie.Need-returns-2
-returns-2 c = rw (day-asked, month-asked (c .before .before), c .day-zero .ensures)
+returns-2 c = rw (day-asked, month-asked (c .before .before .before), c .before .numbers-of .ensures)
 
 pub day-of-spec : {M : Type 1} → statement M
 day-of-spec =

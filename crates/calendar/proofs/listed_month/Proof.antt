@@ -29,22 +29,25 @@ cast-t7 : tie.Need-cast-t7
 cast-t7 c = let at = c .before .before .before in omega (arith, next at, room at .at-most)
 
 sub-t9 : tie.Need-sub-t9
-sub-t9 c = omega (arith, c .before .day-zero .ensures, room (c .before .before .before .before .before) .from)
+sub-t9 c = rw (c .before .before .numbers-of .ensures) (omega (arith, room (c .before .before .before .before .before .before) .from))
 
 cast-t10 : tie.Need-cast-t10
-cast-t10 c = let r = room (c .before .before .before .before .before) in omega (arith, c .before .day-zero .ensures, r .to, r .at-least)
+cast-t10 c =
+    let r = room (c .before .before .before .before .before .before) in
+    rw (c .before .before .numbers-of .ensures) (omega (arith, r .to, r .at-least))
 
 returns : tie.Need-returns
 returns c =
-    let start = c .before .before .before .before .before in
+    let t = c .before .before .before .before in
+    let start = t .before .before in
     let at = start .args in
     let r = rulesOf (at .calendar) in
     let own : at .month .start ≡ r .start (at .month .month) = ap (λ b. b .start) (room start .fits .own) in
     rw (
-      c .before .before .before .term-number .ensures,
-      c .before .before .before .before .last-term-by .ensures,
+      t .term-number .ensures,
+      t .before .last-term-by .ensures,
       number-of-last r (steady (at .calendar)) (at .month .month),
-      c .before .day-zero .ensures,
+      c .before .before .numbers-of .ensures,
       own,
       next start,
     )

@@ -1,10 +1,14 @@
--- `months::begin` meets its contract: the calendar tells the day.
+-- `months::begin` meets its contract: each calendar is asked for its own new moon's day.
+use native.Mathlib.Omega.{arith}
 use borrow.Author.Needs.{needs}
+use Rattle.months.specs.Rules.{rulesOf}
 use Rattle.months.proofs.begin.Statement.{statement}
 use Rattle.months.proofs.begin.Tie as tie
 
-returns : tie.Need-returns
-returns c = rw (c .start .ensures)
-
 pub begin-spec : {M : Type 1} → statement M
-begin-spec = tie.close (tie.spec (λ c κs. search needs) returns)
+unfolding rulesOf
+begin-spec =
+    tie.close
+    (tie.spec (λ c. search needs) (λ c κs. search needs) (λ c. search needs) (λ c κs. omega arith)
+    (λ c. rw (c .before .enum-told .given .1, c .new-moon-day .ensures))
+    (λ c. rw (c .before .enum-told2 .given .1, c .day-of .ensures)))

@@ -8,6 +8,6 @@ pub full-moon-spec : {M : Type 1} → statement M
 unfolding rulesOf
 full-moon-spec =
     tie.close
-    (tie.spec (λ c. search needs) (λ c κs. search needs) (λ c. search needs) (λ c. search needs) (λ c κs. search needs) (λ c. search needs)
-    (λ c. rw (c .before .enum-told .given .1, c .full-moon-fen .ensures))
+    (tie.spec (λ c. search needs) (λ c κs. search needs) (λ c κs. search needs) (λ c. search needs) (λ c. search needs) (λ c κs. search needs)
+    (λ c. let sky = c .before in rw (sky .before .enum-told .given .1, c .byo-to-fen .ensures, sky .full-moon-sky .ensures))
     (λ c. rw (c .before .enum-told2 .given .1, c .full-moon .ensures)))

@@ -1,4 +1,5 @@
--- `months::mid_term_by` meets its contract: each calendar is asked for its own.
+-- `months::mid_term_by` meets its contract: each calendar's mid-terms are a cycle of its own.
+use native.Mathlib.Omega.{arith}
 use borrow.Author.Needs.{needs}
 use Rattle.months.specs.Rules.{rulesOf}
 use Rattle.months.proofs.mid_term_by.Statement.{statement}
@@ -8,6 +9,6 @@ pub mid-term-by-spec : {M : Type 1} → statement M
 unfolding rulesOf
 mid-term-by-spec =
     tie.close
-    (tie.spec (λ c. search needs) (λ c κs. search needs) (λ c. search needs) (λ c κs. search needs)
-    (λ c. rw (c .before .enum-told .given .1) (c .mid-term-by .ensures))
-    (λ c. rw (c .before .enum-told2 .given .1) (c .mid-term-by2 .ensures)))
+    (tie.spec (λ c. search needs) (λ c κs. omega arith) (λ c. search needs) (λ c κs. omega arith)
+    (λ c. rw (c .before .enum-told .given .1) (c .last-by .ensures))
+    (λ c. rw (c .before .enum-told2 .given .1) (c .last-by2 .ensures)))

@@ -10,6 +10,6 @@ unfolding rulesOf
 new-moon-spec =
     tie.close
     (tie.spec (λ c. search needs) (λ c κs. search needs) (λ c. search needs) (λ c. search needs) (λ c κs. search needs)
-    (λ c κs. rw (c .new-moon2 .ensures) (omega arith)) (λ c. search needs)
+    (λ c κs. rw (c .new-moon2 .ensures) (omega arith))
     (λ c. rw (c .before .enum-told .given .1, c .new-moon .ensures))
     (λ c. rw (c .before .before .enum-told2 .given .1, c .part-to-half-parts .ensures, c .before .new-moon2 .ensures)))

@@ -1,4 +1,5 @@
--- `months::term_day` meets its contract: each calendar is asked for its own.
+-- `months::term_day` meets its contract: the Rain Water of a year is twelve mid-terms a year after that of year 0.
+use native.Mathlib.Omega.{arith}
 use borrow.Author.Needs.{needs}
 use Rattle.months.specs.Rules.{rulesOf}
 use Rattle.months.proofs.term_day.Statement.{statement}
@@ -8,7 +9,7 @@ pub term-day-spec : {M : Type 1} → statement M
 unfolding rulesOf
 term-day-spec =
     tie.close
-    (tie.spec (λ c. search needs) (λ c κs. search needs) (λ c. search needs) (λ c κs. search needs) (λ c. search needs)
-    (λ c. search needs) (λ c κs. search needs) (λ c. search needs) (λ c κs. search needs) (λ c. search needs)
-    (λ c. rw (c .before .before .enum-told .given .1) (rw (c .before .rain-water .ensures) at (c .mid-term-day .ensures)))
-    (λ c. rw (c .before .before .enum-told2 .given .1) (rw (c .before .rain-water2 .ensures) at (c .mid-term-day2 .ensures))))
+    (tie.spec (λ c. search needs) (λ c κs. search needs) (λ c κs. search needs) (λ c. search needs)
+    (λ c. search needs) (λ c κs. search needs) (λ c κs. search needs) (λ c. search needs)
+    (λ c. rw (c .before .before .enum-told .given .1, c .day-of .ensures, c .before .term-of .ensures) (omega arith))
+    (λ c. rw (c .before .before .enum-told2 .given .1, c .day-of2 .ensures, c .before .term-of2 .ensures) (omega arith)))

@@ -9,6 +9,7 @@ pub term-number-spec : {M : Type 1} → statement M
 term-number-spec =
     tie.close
     (tie.spec (λ c κs. search needs)
-    (λ c. omega (arith, c .zeroth-number .ensures, sizes (c .before .args .calendar)))
-    (λ c. omega (arith, c .zeroth-number .ensures, sizes (c .before .args .calendar)))
-    (λ c. search needs) (λ c. search needs) (λ c. search needs))
+    (λ c. let n = c .before in rw (n .numbers-of .ensures) (omega (arith, sizes (n .before .args .calendar))))
+    (λ c. let n = c .before in rw (n .numbers-of .ensures) (omega (arith, sizes (n .before .args .calendar))))
+    (λ c. search needs) (λ c. search needs)
+    (λ c. rw (c .before .numbers-of .ensures)))

@@ -3,8 +3,7 @@ use Prim.Native.Nat.{_+_, _*_}
 use native.Mathlib.Omega.{arith}
 use lib.IntN.{pos, _+ℤ_, _*ℤ_}
 use mir.Syntax.{w64}
-use mir.Val.{toZ, SFits}
-use mir.Facts.{toZ-ofZ}
+use mir.Val.{toZ}
 use borrow.Author.Needs.{needs}
 use Rattle.numbers.proofs.Size.{word, Worked, worked-fits, worked-word, small-word, worked-pos, worked-add, worked-mul}
 use Rattle.moon.specs.declared.HalfSecond.{HalfSecond}
@@ -18,15 +17,15 @@ use Rattle.moon.proofs.rounded.Tie as tie
 module _ (row : SignedRow) (over length : HalfSecond) (h : RoundableRow row over length) where
   whole : Worked (word (row .1) *ℤ toZ w64 (length .0)) (row .1 *ℤ pos (length .0)) (5000 * dayHalfSeconds .0)
   whole =
-      worked-mul (small-word (row .1) (h .sum-small) (omega arith))
+      worked-mul (small-word (row .1) {n = 5000} (omega arith) (omega arith))
       (worked-pos (length .0) (dayHalfSeconds .0) (h .length-small) (omega arith))
 
-  part : Worked (word (row .0) *ℤ toZ w64 (over .0)) (row .0 *ℤ pos (over .0)) (1000 * dayHalfSeconds .0)
+  part : Worked (word (row .0) *ℤ toZ w64 (over .0)) (row .0 *ℤ pos (over .0)) (5000 * dayHalfSeconds .0)
   part =
-      worked-mul (small-word (row .0) (h .change-small) (omega arith))
+      worked-mul (small-word (row .0) {n = 5000} (omega arith) (omega arith))
       (worked-pos (over .0) (dayHalfSeconds .0) (h .over-small) (omega arith))
 
-  total : Worked (word (word (row .1) *ℤ toZ w64 (length .0)) +ℤ word (word (row .0) *ℤ toZ w64 (over .0))) (row .1 *ℤ pos (length .0) +ℤ row .0 *ℤ pos (over .0)) (5000 * dayHalfSeconds .0 + 1000 * dayHalfSeconds .0)
+  total : Worked (word (word (row .1) *ℤ toZ w64 (length .0)) +ℤ word (word (row .0) *ℤ toZ w64 (over .0))) (row .1 *ℤ pos (length .0) +ℤ row .0 *ℤ pos (over .0)) (5000 * dayHalfSeconds .0 + 5000 * dayHalfSeconds .0)
   total = worked-add (worked-word whole (omega arith)) (worked-word part (omega arith))
 
 nearest-of-requires : tie.Need-nearest-of-requires
@@ -37,8 +36,8 @@ nearest-of-requires c κs =
 returns : tie.Need-returns
 returns c =
     let w = total _ _ _ (c .before .before .before .before .before .before .before .pre) in
-    let fits : SFits w64 (c .nearest-of .result) = search needs in
-    rw (toZ-ofZ fits) (rw (worked-word w (omega arith) .same) at (c .nearest-of .ensures))
+    let told = rw (worked-word w (omega arith) .same) at (c .nearest-of .ensures) in
+    search needs
 
 pub rounded-spec : {M : Type 1} → statement M
 rounded-spec =

@@ -3,7 +3,7 @@ use mathlib.Core.Path.{_∙_, ap}
 use mathlib.Core.Logic.{⊎-elim}
 use native.Mathlib.Omega.{arith}
 use borrow.Author.Needs.{needs}
-use Rattle.moon.specs.Room.{signedAt}
+use Rattle.moon.specs.Room.{firstRowAt}
 use Rattle.moon.proofs.SignedRows.{upper-at, lower-at}
 use Rattle.moon.proofs.row_of.Statement.{statement}
 use Rattle.moon.proofs.row_of.Tie as tie
@@ -15,8 +15,8 @@ returns : tie.Need-returns
 returns c =
     let at = c .before .before in
     ⊎-elim
-    (λ w. rw (w .0 .taken) (c .signed-row .ensures ∙ ap signedAt (w .1) ∙ upper-at (at .args .day) (at .pre)))
-    (λ w. rw (w .0 .left) (c .signed-row .ensures ∙ ap signedAt (w .1) ∙ lower-at (at .args .day) (at .pre)))
+    (λ w. rw (w .0 .taken) (c .signed-row .ensures ∙ ap firstRowAt (w .1) ∙ upper-at (at .args .day) (at .pre)))
+    (λ w. rw (w .0 .left) (c .signed-row .ensures ∙ ap firstRowAt (w .1) ∙ lower-at (at .args .day) (at .pre)))
     (c .before .if1 .came)
 
 pub row-of-spec : {M : Type 1} → statement M

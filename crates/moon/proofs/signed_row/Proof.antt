@@ -4,20 +4,20 @@ use Prim.Native.Nat.{ℕ}
 use native.Mathlib.Omega.{arith}
 use Rattle.numbers.proofs.Arms.{past-arms}
 use Rattle.moon.specs.Moon.{upperRows, lowerRows}
-use Rattle.moon.specs.Room.{signedAt}
+use Rattle.moon.specs.Room.{standIn, firstRowAt}
 use Rattle.moon.proofs.signed_row.Statement.{statement}
 use Rattle.moon.proofs.signed_row.Tie as tie
 
 -- what stands at a place stands at an equal one
-at : {n k : ℕ} → n ≡ k → signedAt k ≡ signedAt n
-at e = ap signedAt (sym e)
+at : {n k : ℕ} → n ≡ k → firstRowAt k ≡ firstRowAt n
+at e = ap firstRowAt (sym e)
 
 -- the rest is the last
 last : (c : tie.At-match-rest) → c .before .args .place ≡ 27
 last c = let past = past-arms 27 (c .before .args .place) (c .match .rest) in omega (arith, past, c .before .pre)
 
 pub signed-row-spec : {M : Type 1} → statement M
-unfolding upperRows lowerRows
+unfolding upperRows lowerRows standIn
 signed-row-spec =
     tie.close
     (tie.spec

@@ -1,9 +1,10 @@
--- `moons::full_moon_at` meets its contract: the full moon of a covered month has a day number, and its node is asked for by itself.
+-- `moons::full_moon_at` meets its contract: what it tells is read off the sky, and the full moon of a covered month has a day number.
 use mathlib.Core.Path.{_≡_}
 use native.Mathlib.Omega.{arith}
 use borrow.Author.Needs.{needs}
 use Rattle.units.specs.Units.{wholeDays}
-use Rattle.senmyo.specs.Phases.{fullMoonFen}
+use Rattle.senmyo.specs.FullMoons.{fullMoonFen}
+use Rattle.senmyo.proofs.PhaseLaws.{node-within}
 use Rattle.months.specs.Rules.{rulesOf}
 use Rattle.moons.specs.Eclipses.{fullMoonAt}
 use Rattle.moons.proofs.Moments.{HasDayNumber, full-numbered}
@@ -11,25 +12,34 @@ use Rattle.moons.proofs.full_moon_at.Statement.{statement}
 use Rattle.moons.proofs.full_moon_at.Tie as tie
 
 -- the whole days of the full moon
-days : (c : tie.After-whole-days) → c .whole-days .result ≡ wholeDays (fullMoonFen (c .before .before .before .before .args .month))
-days c = rw (c .before .before .before .full-moon-fen .ensures) at (c .whole-days .ensures)
+days : (c : tie.After-whole-days) → c .whole-days .result ≡ wholeDays (fullMoonFen (c .before .before .before .before .before .args .month))
+days c = let m = c .before .before .before in rw (m .byo-to-fen .ensures, m .before .full-moon-sky .ensures) at (c .whole-days .ensures)
 
-numbered : (c : tie.After-whole-days) → HasDayNumber (wholeDays (fullMoonFen (c .before .before .before .before .args .month)))
-numbered c = full-numbered _ (c .before .before .before .before .pre)
+numbered : (c : tie.After-whole-days) → HasDayNumber (wholeDays (fullMoonFen (c .before .before .before .before .before .args .month)))
+numbered c = full-numbered _ (c .before .before .before .before .before .pre)
 
 returns : tie.Need-returns
 unfolding rulesOf fullMoonAt
 returns c =
-    let b = c .before .before in
-    rw (c .before .day-zero .ensures, days b, c .fen-of-day .ensures, b .before .before .before .full-moon-fen .ensures, b .before .before .node .ensures)
+    let n = c .before .before .before .before .before in
+    rw (
+      c .before .before .numbers-of .ensures,
+      days (c .before .before .before),
+      c .fen-of-day .ensures,
+      n .node-of .ensures,
+      n .before .byo-to-fen .ensures,
+      n .before .before .full-moon-sky .ensures,
+    )
 
-sub-t9 : tie.Need-sub-t9
+sub-t10 : tie.Need-sub-t10
 unfolding rulesOf
-sub-t9 c = rw (c .day-zero .ensures, days (c .before)) (numbered (c .before) .from)
+sub-t10 c = rw (c .before .numbers-of .ensures, days (c .before .before)) (numbered (c .before .before) .from)
 
-cast-t10 : tie.Need-cast-t10
+cast-t11 : tie.Need-cast-t11
 unfolding rulesOf
-cast-t10 c = rw (c .day-zero .ensures, days (c .before)) (omega (arith, numbered (c .before) .from, numbered (c .before) .to))
+cast-t11 c =
+    let h = numbered (c .before .before) in
+    rw (c .before .numbers-of .ensures, days (c .before .before)) (omega (arith, h .from, h .to))
 
 pub full-moon-at-spec : {M : Type 1} → statement M
 full-moon-at-spec =
@@ -37,9 +47,10 @@ full-moon-at-spec =
     (tie.spec
     (λ c κs. search needs)
     (λ c κs. search needs)
+    (λ c κs. rw (c .before .full-moon-sky .ensures) (node-within _))
     (λ c κs. search needs)
     (λ c κs. search needs)
-    sub-t9
-    cast-t10
+    sub-t10
+    cast-t11
     (λ c κs. search needs)
     returns)

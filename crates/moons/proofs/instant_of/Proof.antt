@@ -6,7 +6,7 @@ use Rattle.moons.proofs.instant_of.Tie as tie
 
 returns : tie.Need-returns
 unfolding instantIn
-returns c = rw (c .before .before .before .day-zero .ensures) at (c .julian-date .ensures)
+returns c = rw (c .before .before .before .before .numbers-of .ensures) at (c .julian-date .ensures)
 
 pub instant-of-spec : {M : Type 1} → statement M
 instant-of-spec =
@@ -15,10 +15,10 @@ instant-of-spec =
     (λ c. search needs)
     (λ c. search needs)
     (λ c κs. search needs)
+    (λ c. rw (c .before .numbers-of .ensures) (search needs))
     (λ c. search needs)
     (λ c. search needs)
+    (λ c. rw (c .before .before .before .numbers-of .ensures) (search needs))
     (λ c. search needs)
-    (λ c. search needs)
-    (λ c. search needs)
-    (λ c κs. search needs)
+    (λ c κs. rw (c .before .before .before .numbers-of .ensures) (search needs))
     returns)

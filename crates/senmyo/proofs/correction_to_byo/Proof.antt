@@ -4,7 +4,7 @@ use native.Mathlib.Omega.{arith}
 use lib.IntN.{pos, _*ℤ_}
 use borrow.Author.Needs.{needs}
 use Rattle.numbers.proofs.Size.{word, Worked, worked-fits, worked-word, small-word, constant, worked-mul}
-use Rattle.senmyo.specs.Phases.{correctionToByo}
+use Rattle.senmyo.specs.FullMoons.{correctionToByo}
 use Rattle.senmyo.proofs.correction_to_byo.Statement.{statement}
 use Rattle.senmyo.proofs.correction_to_byo.Tie as tie
 
