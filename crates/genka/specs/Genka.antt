@@ -36,7 +36,7 @@ newMoonDay j = cycleDay newMoons j
 
 -- the full moon is half a spacing later: half of 22,207 parts is 22,207 half parts
 abbrev pub fullMoon : ℕ → HalfPart
-fullMoon j = halfPart (partToHalfParts (newMoon j) .0 + 22207)
+fullMoon j = halfPart (partToHalfParts (newMoon j) .0 + newMoons .spacing)
 
 -- mid-terms are 222,070/7,296 days apart
 abbrev pub midTerms : Cycle

@@ -51,7 +51,7 @@ pub struct Moment {
     pub of_day: u32,
 }
 
-// Mid-term 0 is a solstice, of month 11. Years are counted from the first of 7,070,138 before 822, and Rain Water comes two mid-terms after the solstice.
+// Mid-term 0 is a solstice, of month 11. By 822, 7,070,138 years are accumulated; Rain Water is two mid-terms after the solstice.
 const SENMYO: CalendarNumbers = CalendarNumbers {
     first_year: 822,
     last_year: 1684,
