@@ -89,7 +89,7 @@ impl Run {
 }
 
 mod raw {
-    #[link(name = "timed", kind = "static")]
+    #[link(name = "bench_run", kind = "static")]
     unsafe extern "C" {
         pub fn timed_date(
             calendar: u8,

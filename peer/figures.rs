@@ -1,6 +1,6 @@
 //! The figures and edges of the rules but for the eight worked cases, as the
-//! program `figures` prints them: a line has what it is about, a colon, and the
-//! numbers.
+//! program `check_figures` prints them: a line has what it is about, a colon,
+//! and the numbers.
 
 use crate::calendar::{cycle_number, Calendar};
 use crate::dates::{self, Date};

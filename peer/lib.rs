@@ -13,6 +13,7 @@ pub mod figures;
 pub mod genka;
 pub mod instants;
 pub mod lines;
+pub mod listing;
 pub mod months;
 pub mod moon;
 pub mod record;

@@ -1,7 +1,6 @@
 //! The peer's program: prints what the programs are expected to print.
 
-use peer::calendar::{self, Calendar};
-use peer::{figures, instants, lines, months, records, replies, runs, worked};
+use peer::{figures, lines, listing, months, worked};
 use std::env;
 use std::process::ExitCode;
 
@@ -13,12 +12,7 @@ fn main() -> ExitCode {
     let words: Vec<&str> = words.iter().map(String::as_str).collect();
     match words[..] {
         ["year", calendar, year] => print_year(calendar, year),
-        ["years"] => print_years(),
-        ["replies"] => print_replies(),
-        ["eclipses"] => print_eclipses(),
-        ["instants"] => print_instants(),
-        ["records"] => print_records(),
-        ["runs"] => print_runs(),
+        ["listing"] => print_listing(),
         ["figures"] => print_figures(),
         ["worked"] => print_worked(),
         _ => usage(),
@@ -36,43 +30,8 @@ fn print_year(calendar: &str, year: &str) -> ExitCode {
     ExitCode::SUCCESS
 }
 
-fn print_years() -> ExitCode {
-    for calendar in calendar::ALL {
-        for year in months::covered_years(calendar) {
-            print!("{}", lines::year_line(&year));
-        }
-    }
-    ExitCode::SUCCESS
-}
-
-fn print_replies() -> ExitCode {
-    for input in replies::INPUTS {
-        print!("{}", replies::answer(input));
-    }
-    ExitCode::SUCCESS
-}
-
-fn print_eclipses() -> ExitCode {
-    for year in months::covered_years(Calendar::Senmyo) {
-        print!("{}", lines::eclipse_lines(&year));
-    }
-    ExitCode::SUCCESS
-}
-
-fn print_instants() -> ExitCode {
-    for year in calendar::ALL.into_iter().flat_map(instants::sample) {
-        print!("{}", lines::instant_lines(&year));
-    }
-    ExitCode::SUCCESS
-}
-
-fn print_records() -> ExitCode {
-    print!("{}", records::all());
-    ExitCode::SUCCESS
-}
-
-fn print_runs() -> ExitCode {
-    print!("{}", runs::all());
+fn print_listing() -> ExitCode {
+    print!("{}", listing::all());
     ExitCode::SUCCESS
 }
 
@@ -96,7 +55,7 @@ fn print_worked() -> ExitCode {
 fn usage() -> ExitCode {
     eprintln!(
         "usage: peer year CALENDAR YEAR | peer COMMAND\n\
-         COMMAND: years, replies, eclipses, instants, records, runs, figures or worked"
+         COMMAND: listing, figures or worked"
     );
     ExitCode::from(2)
 }

@@ -1,5 +1,5 @@
-//! What writing and reading year records answers to what the program `records`
-//! tries.
+//! What writing and reading year records answers to what the program
+//! `check_listing` tries.
 
 use crate::calendar::{self, Calendar};
 use crate::lines::{hexadecimal, line};

@@ -1,7 +1,7 @@
-//! What the calls on a kept run answer to what the program `runs` tries. Of a
-//! run are told the four numbers that stand before its places, and the sums
-//! over all places of the first days and of the last dates, each date as one
-//! number; of a full run, every place.
+//! What the calls on a kept run answer to what the program `check_listing`
+//! tries. Of a run are told the four numbers that stand before its places, and
+//! the sums over all places of the first days and of the last dates, each date
+//! as one number; of a full run, every place.
 
 use crate::dates::Date;
 use crate::refusal;

@@ -2,19 +2,22 @@
 use Prim.Native.Nat.{ℕ, _+_, _-_, _<_, _≤_, _^_}
 use native.Mathlib.Omega.{arith}
 use Rattle.numbers.proofs.Spans.{later, span-from, span-before}
-use Rattle.senmyo.proofs.Lengths as senmyo-lengths
+use Rattle.senmyo_lengths.proofs.Lengths as senmyo-lengths
 use Rattle.genka.proofs.GenkaLaws as genka-laws
-use Rattle.months.specs.declared.Calendar.{Calendar}
-use Rattle.months.specs.declared.Calendar.the-variants.{Senmyo, Genka}
-use Rattle.months.specs.Rules.{Rules, mid, senmyo, genka, rulesOf}
-use Rattle.months.specs.Months.{monthOf, firstMonth, firstDay, nextFirstDay, yearWith, lastTerm}
+use Rattle.months_rules.specs.declared.Calendar.{Calendar}
+use Rattle.months_rules.specs.declared.Calendar.the-variants.{Senmyo, Genka}
+use Rattle.months_rules.specs.Rules.{Rules, mid, senmyo, genka, rulesOf}
+use Rattle.months_rules.specs.FirstMonths.{monthOf, firstMonth, firstDay, nextFirstDay}
+use Rattle.months_rules.specs.Room.{CoveredTerm}
+use Rattle.months_rules.proofs.Steady.{Steady, terms-grow}
+use Rattle.months_rules.proofs.FirstMonths.{from-year-0, years-in-order}
+use Rattle.months_rules.proofs.Calendars.{senmyo-steady, genka-steady, steady, sizes}
+use Rattle.months_rules.proofs.Figures.{first-1685, first-698, senmyo-opens, senmyo-ends, genka-opens, genka-ends}
+use Rattle.months.specs.Months.{yearWith, lastTerm}
 use Rattle.months.specs.Year.{MonthDays, OfYear, DemandedYear}
-use Rattle.months.specs.Room.{CoveredTerm, Covering}
-use Rattle.months.proofs.Steady.{Steady, terms-grow}
-use Rattle.months.proofs.FirstMonths.{from-year-0, years-in-order, year-holds, year-from, year-to, rain-water-fallen, year-told}
+use Rattle.months.specs.Room.{Covering}
+use Rattle.months.proofs.YearOfMonth.{year-holds, year-from, year-to, rain-water-fallen, year-told}
 use Rattle.months.proofs.Years.{year-of}
-use Rattle.months.proofs.Calendars.{senmyo-steady, genka-steady, steady, sizes}
-use Rattle.months.proofs.Figures.{first-1685, first-698, senmyo-opens, senmyo-ends, genka-opens, genka-ends}
 
 -- the tested months are all that the covered years need
 tested-from : (y : ℕ) → 822 ≤ y → senmyo-lengths.firstTested ≤ firstMonth senmyo y

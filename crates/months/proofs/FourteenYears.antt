@@ -4,15 +4,15 @@ use Prim.Native.Nat.{ℕ, _+_, _*_, _<_, _≤_}
 use native.Mathlib.Omega.{arith}
 use Rattle.numbers.proofs.Spans.{later, span-to}
 use Rattle.cycles.proofs.CycleLaws.{at-least, at-most}
-use Rattle.senmyo.proofs.Lengths as senmyo-lengths
+use Rattle.senmyo.proofs.NearMean.{months-of-14-years}
 use Rattle.genka.specs.Genka.{newMoons}
-use Rattle.months.specs.declared.Calendar.{Calendar}
-use Rattle.months.specs.declared.Calendar.the-variants.{Senmyo, Genka}
-use Rattle.months.specs.Rules.{Rules, mid, senmyo, genka, rulesOf}
-use Rattle.months.specs.Months.{firstMonth}
-use Rattle.months.proofs.Steady.{Steady, terms-grow}
-use Rattle.months.proofs.FirstMonths.{from-year-0, opens}
-use Rattle.months.proofs.Calendars.{senmyo-steady, genka-steady}
+use Rattle.months_rules.specs.declared.Calendar.{Calendar}
+use Rattle.months_rules.specs.declared.Calendar.the-variants.{Senmyo, Genka}
+use Rattle.months_rules.specs.Rules.{Rules, mid, senmyo, genka, rulesOf}
+use Rattle.months_rules.specs.FirstMonths.{firstMonth}
+use Rattle.months_rules.proofs.Steady.{Steady, terms-grow}
+use Rattle.months_rules.proofs.FirstMonths.{from-year-0, opens}
+use Rattle.months_rules.proofs.Calendars.{senmyo-steady, genka-steady}
 
 record Fourteen (r : Rules) : Type 0 where
   months : (k : ℕ) → r .start k + 5114 < r .start (k + 174)
@@ -33,7 +33,7 @@ module _ (r : Rules) (s : Steady r) where
 
 pub at-most-174 : (c : Calendar) (y n : ℕ) → n ≤ 14 → firstMonth (rulesOf c) (y + n) ≤ firstMonth (rulesOf c) y + 174
 unfolding rulesOf
-at-most-174 Senmyo y n h = ends senmyo senmyo-steady y n h (record { months = senmyo-lengths.months-of-14-years; terms = omega arith })
+at-most-174 Senmyo y n h = ends senmyo senmyo-steady y n h (record { months = months-of-14-years; terms = omega arith })
 at-most-174 Genka y n h =
     ends genka genka-steady y n h
     (record { months = λ k. omega (arith, at-least newMoons (omega arith) 174 5115 (omega arith) k); terms = omega arith })

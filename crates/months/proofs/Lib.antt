@@ -1,12 +1,11 @@
 pub mod Order
-pub mod Steady
 pub mod Terms
-pub mod FirstMonths
+pub mod YearOfMonth
 pub mod Years
-pub mod Calendars
 pub mod SenmyoMonths
 pub mod FourteenYears
 pub mod Figures
 pub mod CoveredYears
+pub mod CoveredMonths
 pub mod Moments
 pub mod OneAnswer

@@ -4,10 +4,10 @@ use Prim.Native.Nat.{ℕ, _+_, _-_, _<_, _≤_}
 use native.Mathlib.Omega.{arith}
 use Rattle.numbers.proofs.Spans.{span-is}
 use Rattle.senmyo.specs.Room.{latestMonth}
-use Rattle.senmyo.proofs.Lengths.{near-mean, latest-begun, none-later}
-use Rattle.months.specs.Rules.{senmyo}
-use Rattle.months.specs.Months.{monthOf}
-use Rattle.months.proofs.Calendars.{senmyo-steady}
+use Rattle.senmyo.proofs.NearMean.{near-mean, latest-begun, none-later}
+use Rattle.months_rules.specs.Rules.{senmyo}
+use Rattle.months_rules.specs.FirstMonths.{monthOf}
+use Rattle.months_rules.proofs.Calendars.{senmyo-steady}
 
 module _ (d : ℕ) where
   pub latest-has : senmyo .start (latestMonth d) ≤ d → monthOf senmyo d ≡ latestMonth d

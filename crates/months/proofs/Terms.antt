@@ -7,11 +7,13 @@ use borrow.Author.Tests.{ltb-true, ltb-false, lt-ltb, le-ltb}
 use lib.Dec.{ltb}
 use Rattle.numbers.specs.Spans.{Holds}
 use Rattle.numbers.proofs.Spans.{later, not-after, span-holds, span-is}
-use Rattle.months.specs.Rules.{Rules, mid}
-use Rattle.months.specs.Months.{HasTerm, termNumber, lastTerm, isLeap, numberOf}
+use Rattle.months_rules.specs.Rules.{Rules, mid, termNumber}
+use Rattle.months_rules.specs.FirstMonths.{HasTerm, firstMonth}
+use Rattle.months_rules.proofs.Steady.{Steady, terms-grow, terms-apart}
+use Rattle.months_rules.proofs.FirstMonths.{opens}
+use Rattle.months.specs.Months.{lastTerm, isLeap, numberOf}
 use Rattle.months.specs.Year.{MonthDays}
 use Rattle.months.specs.Room.{IsLast, lastTermOf}
-use Rattle.months.proofs.Steady.{Steady, terms-grow, terms-apart}
 
 module _ (r : Rules) (s : Steady r) (k : ℕ) where
   pub last-term : IsLast r k (lastTerm r k)
@@ -52,6 +54,10 @@ module _ (r : Rules) (s : Steady r) (k : ℕ) where
 
   pub last-term-is : (j : ℕ) → r .start (k + 1) ≤ r .start k + 30 → HasTerm r k j → lastTerm r k ≡ j
   last-term-is j short h = one-term (lastTerm r k) j short (not-leap-has (has-not-leap j h)) h
+
+-- month 1 of a year is never leap: it has the Rain Water
+pub month-1-not-leap : (r : Rules) → Steady r → (y : ℕ) → isLeap r (firstMonth r y) ≡ false
+month-1-not-leap r s y = has-not-leap r s (firstMonth r y) (r .rainWater y) (opens r s y)
 
 -- without a mid-term, the last by the end is the last by the eve of the month
 last-before : (r : Rules) → Steady r → (k : ℕ) → isLeap r k ≡ true → lastTerm r (k - 1) ≡ lastTerm r k

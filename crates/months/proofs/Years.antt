@@ -5,12 +5,13 @@ use Prim.Native.Nat.{ℕ, zero, suc, _+_, _-_, _<_, _≤_}
 use native.Mathlib.Numerals.{add-one}
 use native.Mathlib.Omega.{arith, by-contra}
 use Rattle.numbers.proofs.Spans.{later, one-span, span-holds, span-is, span-from, span-before, together}
-use Rattle.months.specs.Rules.{Rules, mid}
-use Rattle.months.specs.Months.{Has, HasTerm, monthOf, monthWith, firstMonth, termNumber, lastTerm}
+use Rattle.months_rules.specs.Rules.{Rules, mid, termNumber}
+use Rattle.months_rules.specs.FirstMonths.{Has, HasTerm, monthOf, monthWith, firstMonth}
+use Rattle.months_rules.proofs.Steady.{Steady, terms-apart}
+use Rattle.months_rules.proofs.FirstMonths.{terms-in-order, opens, first-with, next-with}
+use Rattle.months.specs.Months.{lastTerm}
 use Rattle.months.specs.Year.{MonthDays, OfYear, WithinYear, OneMonth, Numbered, LeapAfter, Twelve, Thirteen, TwelveOrThirteen, twelve, thirteen, DemandedYear}
 use Rattle.months.proofs.Order.{by-order}
-use Rattle.months.proofs.Steady.{Steady, terms-apart}
-use Rattle.months.proofs.FirstMonths.{terms-in-order, opens, first-with, next-with}
 use Rattle.months.proofs.Terms.{has-not-leap, has-none-leap, one-term, last-term-is, number-of-last, number-of-leap}
 
 module _ (r : Rules) (s : Steady r) (y : ℕ) (length : (k : ℕ) → firstMonth r y ≤ k → k ≤ firstMonth r (y + 1) → MonthDays r k) where

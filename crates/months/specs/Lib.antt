@@ -1,4 +1,3 @@
-pub mod Rules
 pub mod Months
 pub mod Year
 pub mod Room

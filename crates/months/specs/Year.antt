@@ -3,16 +3,13 @@ use mathlib.Core.Path.{_≡_}
 use mathlib.Core.Bool.{true, false}
 use Prim.Native.Nat.{ℕ, _+_, _<_, _≤_}
 use Rattle.numbers.specs.Spans.{Holds, Takes}
-use Rattle.months.specs.Rules.{Rules, mid}
-use Rattle.months.specs.Months.{Has, HasTerm, firstMonth, monthCount, firstDay, termNumber, numberOf, isLeap}
+use Rattle.months_rules.specs.Rules.{Rules, termNumber}
+use Rattle.months_rules.specs.FirstMonths.{Has, HasTerm, firstMonth, firstDay}
+use Rattle.months.specs.Months.{monthCount, numberOf, isLeap}
 
 -- a month has 29 or 30 days
 abbrev pub MonthDays : Rules → ℕ → Type 0
 MonthDays r k = Takes (r .start) k 29 30
-
--- two mid-terms lie 30 or 31 days apart
-abbrev pub TermDays : Rules → ℕ → Type 0
-TermDays r j = Takes (mid r) j 30 31
 
 -- month k is one of year y's: from its month 1 to before the next year's
 abbrev pub OfYear : Rules → ℕ → ℕ → Type 0

@@ -1,43 +1,19 @@
 -- The record's definitions at 01's worked record, and the order of its refusals.
 use mathlib.Core.Path.{_≡_, refl, ap, _∙_}
-use mathlib.Core.List.{List, [], _∷_, _++_}
-use Prim.Native.Nat.{ℕ}
+use mathlib.Core.List.{[], _∷_, _++_}
 use lib.ListN.{replicate}
 use Rattle.answers.specs.Answer.{Answer, given, refused}
 use Rattle.answers.specs.Conditions.{asking}
-use Rattle.months.specs.Rules.{rulesOf}
-use Rattle.calendar.proofs.Figures.{months-1522, months-643}
-use Rattle.record.specs.declared.Fields.{Fields}
 use Rattle.numbers.specs.Same.{sameBy}
-use Rattle.record.specs.Tagged.{bytesOf, fieldBytes, numbersOf, numberAt, tagsAt, numbersAt}
-use Rattle.record.specs.Record.{layout, longBit, longMonths, size, fieldsIn, writeOf, readOf}
-use Rattle.record.proofs.CoveredFields.{fields-listed}
+use Rattle.months_rules.specs.Rules.{rulesOf}
+use Rattle.record_fields.specs.declared.Fields.{Fields}
+use Rattle.record_fields.specs.Tagged.{bytesOf, fieldBytes, numbersOf, numberAt, tagsAt, numbersAt}
+use Rattle.record_fields.specs.Fields.{layout}
+use Rattle.record_fields.proofs.Figures.{fields, fields-1522, printed-1522, record-1522}
+use Rattle.record.specs.Record.{writeOf, readOf}
 use Rattle.record.proofs.RecordLaws.{read-back}
 
-abbrev fields : ℕ → ℕ → ℕ → ℕ → ℕ → Fields
-fields calendar year first leap long = record { calendar = calendar; year = year; «first_day» = first; leap = leap; «long_months» = long }
-
-size-25 : size ≡ 25
-size-25 = refl
-
 -- ---- 1522
-
-fields-1522 : fieldsIn 1 1522 ≡ fields 1 1522 2276996 0 3402
-unfolding longMonths longBit
-fields-1522 = fields-listed 1 1522 _ months-1522
-
--- as 01 prints it
-abbrev pub printed-1522 : List ℕ
-printed-1522 =
-    0x01 ∷ 0x00 ∷ 0x01 ∷ 0x01
-    ∷ 0x02 ∷ 0x00 ∷ 0x02 ∷ 0x05 ∷ 0xF2
-    ∷ 0x03 ∷ 0x00 ∷ 0x04 ∷ 0x00 ∷ 0x22 ∷ 0xBE ∷ 0x84
-    ∷ 0x04 ∷ 0x00 ∷ 0x01 ∷ 0x00
-    ∷ 0x05 ∷ 0x00 ∷ 0x02 ∷ 0x0D ∷ 0x4A ∷ []
-
-record-1522 : fieldBytes layout (fieldsIn 1 1522) ≡ printed-1522
-unfolding fieldBytes bytesOf
-record-1522 = ap (fieldBytes layout) fields-1522
 
 -- written into a buffer of 27 bytes, of which two stay as they were
 write-1522 : writeOf 1 1522 (replicate 27 255) ≡ given (printed-1522 ++ 255 ∷ 255 ∷ [])
@@ -46,12 +22,6 @@ write-1522 = rw record-1522
 
 pub read-1522 : readOf printed-1522 ≡ given (fields 1 1522 2276996 0 3402)
 read-1522 = read-back 1 1522 (replicate 27 255) _ write-1522 ∙ ap given fields-1522
-
--- ---- 643, a year of thirteen months
-
-fields-643 : fieldsIn 2 643 ≡ fields 2 643 1955939 7 2730
-unfolding longMonths longBit
-fields-643 = fields-listed 2 643 _ months-643
 
 -- ---- refusals, the first in 01's order where several hold
 

@@ -1,11 +1,9 @@
 pub mod Same
 pub mod Numbers
 pub mod TaggedLaws
-pub mod LongMonths
-pub mod YearFields
+pub mod OwnBytes
 pub mod Refusals
 pub mod Steps
-pub mod CoveredFields
 pub mod RecordLaws
 pub mod Figures
 pub mod OneAnswer

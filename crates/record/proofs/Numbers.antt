@@ -8,7 +8,7 @@ use native.Mathlib.Omega.{arith}
 use lib.ListN.{length, getD, drop, length-append}
 use lib.Seq.{drop-cons, drop-drop, drop-at, getD-at, getD-drop, append-snoc}
 use lib.Dec.{lit<}
-use Rattle.record.specs.Tagged.{Bytes, bytesOf, numberAt}
+use Rattle.record_fields.specs.Tagged.{Bytes, bytesOf, numberAt}
 
 length-bytes : (w n : ℕ) → length (bytesOf w n) ≡ w
 unfolding bytesOf

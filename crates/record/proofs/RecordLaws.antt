@@ -10,19 +10,21 @@ use lib.Dec.{eqb, ltb}
 use borrow.Author.Tests.{le-leb, eq-eqb, eqb-true, eqb-false, ltb-true, ltb-false}
 use Rattle.answers.specs.Answer.{given}
 use Rattle.answers.specs.Conditions.{Exactly}
-use Rattle.months.specs.Rules.{dayNumber}
-use Rattle.months.specs.Months.{firstDay}
-use Rattle.asked.specs.Asked.{isCalendar, numbered, rulesFor, isCovered}
-use Rattle.asked.proofs.Covered.{covered-year-told}
-use Rattle.asked.proofs.Numbers.{no-year-of-both}
-use Rattle.calendar.proofs.FirstDays.{one-beginning}
-use Rattle.record.specs.declared.Fields.{Fields}
-use Rattle.record.specs.Tagged.{Bytes, fieldBytes, numbersOf, numberAt, tagsAt, numbersAt}
-use Rattle.record.specs.Record.{layout, size, fieldsIn, writeOf, readOf, IsRecord}
+use Rattle.months_rules.specs.Rules.{dayNumber}
+use Rattle.months_rules.specs.FirstMonths.{firstDay}
+use Rattle.calendar_range.specs.Range.{isCalendar, numbered, rulesFor, isCovered}
+use Rattle.calendar_range.proofs.Covered.{covered-year-told}
+use Rattle.calendar_range.proofs.Numbers.{no-year-of-both}
+use Rattle.calendar_year.proofs.FirstDays.{one-beginning}
+use Rattle.record_fields.specs.declared.Fields.{Fields}
+use Rattle.record_fields.specs.Tagged.{Bytes, fieldBytes, numbersOf, numberAt, tagsAt, numbersAt}
+use Rattle.record_fields.specs.Fields.{layout, size, fieldsIn}
+use Rattle.record_fields.proofs.YearFields.{Small, all-bytes}
+use Rattle.record_fields.proofs.CoveredFields.{fields-small}
+use Rattle.record.specs.Record.{writeOf, readOf, IsRecord}
 use Rattle.record.proofs.Numbers.{one-number}
 use Rattle.record.proofs.Same.{same-one, one-same}
-use Rattle.record.proofs.YearFields.{Small, all-bytes, own-bytes, own-tags, own-numbers}
-use Rattle.record.proofs.CoveredFields.{fields-small}
+use Rattle.record.proofs.OwnBytes.{own-bytes, own-tags, own-numbers}
 use Rattle.record.proofs.Refusals.{write-given, read-given}
 
 -- ---- accepted exactly if it is the rule's own

@@ -8,10 +8,11 @@ use lib.Dec.{eqb, leb}
 use Rattle.answers.specs.Answer.{given, refused}
 use Rattle.answers.specs.Conditions.{AllHold, FirstFails, Exactly}
 use Rattle.answers.proofs.Conditions.{given-exactly, refused-exactly}
-use Rattle.asked.specs.Asked.{isCalendar, rulesFor, isCovered}
-use Rattle.record.specs.declared.Fields.{Fields}
-use Rattle.record.specs.Tagged.{fieldBytes, numbersOf, tagsAt, numbersAt, same}
-use Rattle.record.specs.Record.{layout, size, fieldsIn, writeConditions, writeOf, fieldsFor, readConditions, readOf}
+use Rattle.calendar_range.specs.Range.{isCalendar, rulesFor, isCovered}
+use Rattle.record_fields.specs.declared.Fields.{Fields}
+use Rattle.record_fields.specs.Tagged.{fieldBytes, numbersOf, tagsAt, numbersAt, same}
+use Rattle.record_fields.specs.Fields.{layout, size, fieldsIn}
+use Rattle.record.specs.Record.{writeConditions, writeOf, fieldsFor, readConditions, readOf}
 
 -- ---- writing
 

@@ -5,7 +5,7 @@ use mathlib.Core.List.{List}
 use Prim.Native.Nat.{ℕ}
 use lib.Dec.{eqb}
 use Rattle.numbers.proofs.Same.{Tells, tells-numbers, tells-lists, not-one}
-use Rattle.record.specs.Tagged.{same}
+use Rattle.record_fields.specs.Tagged.{same}
 
 tells-same : Tells same
 tells-same = tells-lists eqb tells-numbers

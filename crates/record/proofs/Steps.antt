@@ -1,68 +1,26 @@
 -- What the code finds step by step is what the definitions say in one line.
-use mathlib.Core.Path.{_≡_, refl, sym, ap, _∙_}
+use mathlib.Core.Path.{_≡_, refl, ap, _∙_}
 use mathlib.Core.Bool.{true}
 use mathlib.Core.List.{List, [], _∷_, _++_}
 use Prim.Native.Nat.{ℕ, _≤_}
 use lib.ListN.{length, getD, take, drop}
 use lib.Seq.{take-length}
 use borrow.Author.Tests.{le-leb, eq-eqb}
-use Rattle.answers.specs.Answer.{Answer, given, refused, then, refusalIn}
-use Rattle.answers.specs.Conditions.{asking, AllHold, Exactly}
-use Rattle.answers.proofs.Answers.{struct-refused, struct-given}
-use Rattle.answers.proofs.Conditions.{then-asking, then-given, given-exactly, never-refused}
-use Rattle.asked.specs.Asked.{yearConditions}
-use Rattle.calendar.specs.declared.YearAnswer.{YearAnswer}
-use Rattle.calendar.specs.Years.{yearOf}
-use Rattle.calendar.specs.Answers.{yearAnswer}
-use Rattle.calendar.proofs.Refusals.{year-refuses}
-use Rattle.record.specs.declared.Fields.{Fields}
-use Rattle.record.specs.declared.RecordAnswer.{RecordAnswer}
-use Rattle.record.specs.Tagged.{fieldBytes, numbersOf, tagsAt, numbersAt, same}
-use Rattle.record.specs.Record.{layout, size, fieldsIn, writeOf, readConditions, readOf}
-use Rattle.record.specs.Room.{fieldsOf, acceptedOf}
-use Rattle.record.specs.Answers.{recordAnswer}
-use Rattle.record.proofs.YearFields.{all-bytes}
+use Rattle.answers.specs.Answer.{given, refused, then}
+use Rattle.answers.specs.Conditions.{asking}
+use Rattle.answers.proofs.Conditions.{then-asking, then-given, never-refused}
+use Rattle.calendar_range.specs.Range.{yearConditions}
+use Rattle.record_fields.specs.declared.Fields.{Fields}
+use Rattle.record_fields.specs.declared.RecordAnswer.{RecordAnswer}
+use Rattle.record_fields.specs.Tagged.{fieldBytes, numbersOf, tagsAt, numbersAt, same}
+use Rattle.record_fields.specs.Fields.{layout, size, fieldsIn}
+use Rattle.record_fields.specs.Room.{fieldsOf}
+use Rattle.record_fields.specs.Answers.{recordAnswer}
+use Rattle.record_fields.proofs.YearFields.{all-bytes}
+use Rattle.record_fields.proofs.Steps.{answer-refused, answer-given, fields-known}
+use Rattle.record.specs.Record.{writeOf, readConditions, readOf}
+use Rattle.record.specs.Room.{acceptedOf}
 use Rattle.record.proofs.Same.{one-same, not-same}
-
--- ---- an answer of fields holds its refusal's number, or 0
-
-fields-number : (a : Answer Fields) → recordAnswer a .refusal ≡ refusalIn a
-fields-number (given x) = refl
-fields-number (refused n) = refl
-
--- another number than 0 is the refusal's, and with 0 the fields are given
-module _ (a : Answer Fields) (x : RecordAnswer) (e : x ≡ recordAnswer a) where
-  answer-refused : (x .refusal ≡ 0 → ⊥) → a ≡ refused (x .refusal)
-  answer-refused = struct-refused recordAnswer (λ x. x .refusal) (λ x. x .fields) fields-number (λ v. refl) x a e
-
-  answer-given : (a ≡ refused 0 → ⊥) → x .refusal ≡ 0 → a ≡ given (x .fields)
-  answer-given = struct-given recordAnswer (λ x. x .refusal) (λ x. x .fields) fields-number (λ v. refl) x a e
-
-pub read-refuses : (bytes : List ℕ) (x : RecordAnswer) → x ≡ recordAnswer (readOf bytes) → (x .refusal ≡ 0 → ⊥) → readOf bytes ≡ refused (x .refusal)
-read-refuses bytes = answer-refused (readOf bytes)
-
-pub read-gives : (bytes : List ℕ) (x : RecordAnswer) → x ≡ recordAnswer (readOf bytes) → x .refusal ≡ 0 → readOf bytes ≡ given (x .fields)
-unfolding readOf
-read-gives bytes x e = answer-given (readOf bytes) x e (never-refused (readConditions bytes) _ 0 refl)
-
--- ---- the rule's fields of a year
-
-module _ (c y : ℕ) where
-  pub fields-known : (x : Fields) → Exactly (fieldsOf c y ≡ given x) (AllHold (yearConditions c y) × (fieldsIn c y ≡ x))
-  unfolding fieldsOf
-  fields-known x = given-exactly _ _ x
-
-  -- they are refused as the year is
-  pub fields-refused : (x : YearAnswer) → x ≡ yearAnswer (yearOf c y) → (x .refusal ≡ 0 → ⊥) → recordAnswer (refused (x .refusal)) ≡ recordAnswer (fieldsOf c y)
-  unfolding yearOf fieldsOf
-  fields-refused x e h = ap recordAnswer (sym (then-given (yearConditions c y) _ (λ _. fieldsIn c y) ∙ ap (λ a. then a (λ _. given (fieldsIn c y))) (year-refuses c y x e h)))
-
-  pub fields-refuse : (x : RecordAnswer) → x ≡ recordAnswer (fieldsOf c y) → (x .refusal ≡ 0 → ⊥) → fieldsOf c y ≡ refused (x .refusal)
-  fields-refuse = answer-refused (fieldsOf c y)
-
-  pub fields-give : (x : RecordAnswer) → x ≡ recordAnswer (fieldsOf c y) → x .refusal ≡ 0 → fieldsOf c y ≡ given (x .fields)
-  unfolding fieldsOf
-  fields-give x e = answer-given (fieldsOf c y) x e (never-refused (yearConditions c y) _ 0 refl)
 
 -- ---- writing
 
@@ -76,6 +34,14 @@ pub copied : (bytes buffer left : List ℕ) (x : Fields) → bytes ≡ fieldByte
 copied bytes buffer left x e f = f ∙ ap (λ l. l ++ drop (length bytes) buffer) (take-length bytes) ∙ rw (ap length e ∙ all-bytes x, e)
 
 -- ---- reading
+
+-- the answer holds the refusal, or the fields that are given
+pub read-refuses : (bytes : List ℕ) (x : RecordAnswer) → x ≡ recordAnswer (readOf bytes) → (x .refusal ≡ 0 → ⊥) → readOf bytes ≡ refused (x .refusal)
+read-refuses bytes = answer-refused (readOf bytes)
+
+pub read-gives : (bytes : List ℕ) (x : RecordAnswer) → x ≡ recordAnswer (readOf bytes) → x .refusal ≡ 0 → readOf bytes ≡ given (x .fields)
+unfolding readOf
+read-gives bytes x e = answer-given (readOf bytes) x e (never-refused (readConditions bytes) _ 0 refl)
 
 -- 25 bytes with a record's tags are read by their numbers
 pub right-tags : (bytes : List ℕ) → length bytes ≡ size → tagsAt layout bytes 0 ≡ true → readOf bytes ≡ acceptedOf (numbersAt layout bytes 0)

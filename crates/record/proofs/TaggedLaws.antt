@@ -8,8 +8,8 @@ use native.Mathlib.Omega.{arith}
 use lib.ListN.{length, drop, drop-of-length-le}
 use lib.Dec.{eqb}
 use borrow.Author.Tests.{eqb-true, eq-eqb}
-use Rattle.record.specs.declared.Fields.{Fields}
-use Rattle.record.specs.Tagged.{Field, Bytes, sizeOf, bytesOf, fieldBytes, numbersOf, numberAt, tagsAt, numbersAt}
+use Rattle.record_fields.specs.declared.Fields.{Fields}
+use Rattle.record_fields.specs.Tagged.{Field, Bytes, sizeOf, bytesOf, fieldBytes, numbersOf, numberAt, tagsAt, numbersAt}
 use Rattle.record.proofs.Numbers.{number-there, number-here, behind}
 
 -- tags and lengths fit their bytes ..

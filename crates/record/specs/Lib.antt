@@ -1,4 +1,2 @@
-pub mod Tagged
 pub mod Record
-pub mod Answers
 pub mod Room

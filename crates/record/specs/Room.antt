@@ -4,10 +4,10 @@ use Prim.Native.Nat.{ℕ, _+_, _≤_}
 use lib.ListN.{length, getD}
 use Rattle.answers.specs.Answer.{Answer, then}
 use Rattle.answers.specs.Conditions.{asking}
-use Rattle.asked.specs.Asked.{yearConditions}
-use Rattle.record.specs.declared.Fields.{Fields}
-use Rattle.record.specs.Tagged.{numbersOf, same}
-use Rattle.record.specs.Record.{layout, fieldsIn}
+use Rattle.record_fields.specs.declared.Fields.{Fields}
+use Rattle.record_fields.specs.Tagged.{numbersOf, same}
+use Rattle.record_fields.specs.Fields.{layout}
+use Rattle.record_fields.specs.Room.{fieldsOf}
 
 -- ---- what is asked
 
@@ -17,10 +17,6 @@ pub record NumberThere (bytes : List ℕ) (place count : ℕ) : Type 0 where
   pub at-most-4 : count ≤ 4
 
 -- ---- what is found
-
--- the fields of a year, or the refusal
-unfoldable pub fieldsOf : ℕ → ℕ → Answer Fields
-fieldsOf c y = asking (yearConditions c y) (fieldsIn c y)
 
 -- the fields with these numbers, if they are the rule's own for their calendar and year
 unfoldable pub acceptedOf : List ℕ → Answer Fields

@@ -9,23 +9,24 @@ use borrow.Author.Tests.{ltb-true}
 use Rattle.answers.specs.Answer.{Answer, given}
 use Rattle.answers.specs.Conditions.{asking}
 use Rattle.answers.proofs.Answers.{one-given}
-use Rattle.asked.specs.Asked.{isCalendar, rulesFor, isCovered}
-use Rattle.asked.proofs.Covered.{covered-year-told, covered-year-tested}
-use Rattle.calendar.specs.declared.Date.{Date}
-use Rattle.calendar.specs.Dates.{dayOf, dateIn, dateOf}
-use Rattle.calendar.proofs.Refusals.{date-given}
-use Rattle.calendar.proofs.OneDate.{date-of-day-of, day-of-date-of}
-use Rattle.kept.specs.declared.Run.{Run}
-use Rattle.kept.specs.Runs.{noRun, runOf, isRun}
-use Rattle.kept.specs.Room.{CoveredYears, Kept}
-use Rattle.kept.proofs.Content.{count-fits}
-use Rattle.kept.proofs.Examined.{KeptYears, kept-is}
-use Rattle.held.specs.Held.{holdsYear, holdsDay}
+use Rattle.calendar_range.specs.Range.{isCalendar, rulesFor, isCovered}
+use Rattle.calendar_range.proofs.Covered.{covered-year-told, covered-year-tested}
+use Rattle.calendar_date.specs.declared.Date.{Date}
+use Rattle.calendar_date.specs.Dates.{dayOf, dateIn, dateOf}
+use Rattle.calendar_date.proofs.Refusals.{date-given}
+use Rattle.calendar_date.proofs.OneDate.{date-of-day-of, day-of-date-of}
+use Rattle.run_content.specs.declared.Run.{Run}
+use Rattle.run_content.specs.Runs.{noRun, runOf}
+use Rattle.run_content.specs.Room.{CoveredYears, Kept}
+use Rattle.run_content.proofs.Content.{count-fits}
+use Rattle.run_examination.specs.Examined.{isRun}
+use Rattle.run_examination.proofs.Examined.{KeptYears, kept-is}
+use Rattle.run_lookup.specs.Held.{holdsYear, holdsDay}
+use Rattle.run_lookup.proofs.Places.{held-year-covered}
+use Rattle.run_lookup.proofs.DateOfDay.{held-day-told, held-day-covered, held-date-year, year-day-held, place-day-held, one-place}
 use Rattle.run.specs.Calls.{openOf, extendOf, dropOf, runDayOf, runDateOf}
 use Rattle.run.specs.Answers.{runAnswer}
 use Rattle.run.specs.History.{Call, extend, drop, runAfter, runAfterAll, Years, yearsAfter, yearsAfterAll, OneDate, Demanded}
-use Rattle.held.proofs.Places.{held-year-covered}
-use Rattle.held.proofs.DateOfDay.{held-day-told, held-day-covered, held-date-year, year-day-held, place-day-held, one-place}
 use Rattle.run.proofs.Refusals.{open-given, run-day-given}
 
 -- ---- what a run answers is the calendar's own

@@ -1,4 +1,3 @@
-pub mod Dropping
 pub mod Steps
 pub mod Refusals
 pub mod History

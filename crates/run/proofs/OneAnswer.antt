@@ -1,7 +1,7 @@
 -- What each public function promises leaves one answer.
 use Rattle.numbers.specs.OneResult.{OneResult}
 use Rattle.numbers.proofs.OneResult.{one}
-use Rattle.calendar.proofs.OneAnswer.{one-day, one-date}
+use Rattle.calendar_date.proofs.OneAnswer.{one-day, one-date}
 use Rattle.run.proofs.open_run.Reads as open-run
 use Rattle.run.proofs.extend_run.Reads as extend-run
 use Rattle.run.proofs.drop_oldest.Reads as drop-oldest

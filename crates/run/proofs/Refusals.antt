@@ -6,13 +6,15 @@ use lib.Dec.{ltb}
 use Rattle.answers.specs.Answer.{given, refused}
 use Rattle.answers.specs.Conditions.{AllHold, FirstFails, Exactly}
 use Rattle.answers.proofs.Conditions.{given-exactly, refused-exactly}
-use Rattle.months.specs.Rules.{Rules}
-use Rattle.asked.specs.Asked.{isCalendar, rulesFor, isCovered, hasMonth, monthNamed, hasDay, yearConditions}
-use Rattle.calendar.specs.declared.Date.{Date}
-use Rattle.calendar.specs.Dates.{dayIn, dateIn}
-use Rattle.kept.specs.declared.Run.{Run}
-use Rattle.kept.specs.Runs.{runOf, noRun, canBeKept, isRun}
-use Rattle.held.specs.Held.{holdsYear, holdsDay}
+use Rattle.months_rules.specs.Rules.{Rules}
+use Rattle.calendar_range.specs.Range.{isCalendar, rulesFor, isCovered, yearConditions}
+use Rattle.calendar_month.specs.Asked.{hasMonth, monthNamed, hasDay}
+use Rattle.calendar_date.specs.declared.Date.{Date}
+use Rattle.calendar_date.specs.Dates.{dayIn, dateIn}
+use Rattle.run_content.specs.declared.Run.{Run}
+use Rattle.run_content.specs.Runs.{runOf, noRun}
+use Rattle.run_examination.specs.Examined.{canBeKept, isRun}
+use Rattle.run_lookup.specs.Held.{holdsYear, holdsDay}
 use Rattle.run.specs.Calls.{openOf, extendConditions, extendOf, dropConditions, dropOf, runDayConditions, runDayOf, runDateConditions, runDateOf}
 
 -- ---- opening

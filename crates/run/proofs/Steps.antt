@@ -7,15 +7,15 @@ use native.Mathlib.Omega.{arith}
 use Rattle.answers.specs.Answer.{given, then}
 use Rattle.answers.specs.Conditions.{asking}
 use Rattle.answers.proofs.Conditions.{then-asking}
-use Rattle.months.specs.declared.Calendar.{Calendar}
-use Rattle.asked.specs.Asked.{isCalendar, rulesFor, isCovered, yearAsked}
-use Rattle.asked.proofs.Given.{asked-given}
-use Rattle.asked.proofs.Covered.{covered-year-told}
-use Rattle.kept.specs.declared.Run.{Run}
-use Rattle.kept.specs.Runs.{runOf, isRun}
-use Rattle.kept.specs.Room.{CoveredYears, Kept, Extendable}
-use Rattle.kept.proofs.Content.{itsRules}
-use Rattle.held.specs.Held.{dayInRun, dateInRun}
+use Rattle.months_rules.specs.declared.Calendar.{Calendar}
+use Rattle.calendar_range.specs.Range.{isCalendar, rulesFor, isCovered, yearAsked}
+use Rattle.calendar_range.proofs.Covered.{asked-given, covered-year-told}
+use Rattle.run_content.specs.declared.Run.{Run}
+use Rattle.run_content.specs.Runs.{runOf}
+use Rattle.run_content.specs.Room.{CoveredYears, Kept, Extendable}
+use Rattle.run_content.proofs.Content.{itsRules}
+use Rattle.run_examination.specs.Examined.{isRun}
+use Rattle.run_lookup.specs.Held.{dayInRun, dateInRun}
 use Rattle.run.specs.Calls.{openOf, runDayOf, runDateOf}
 
 -- ---- opening: a year that was asked for, and is covered

@@ -1,6 +1,6 @@
 -- What the answer of a call that gives back a run is.
 use Rattle.answers.specs.Answer.{Answer, given, refused}
-use Rattle.kept.specs.declared.Run.{Run}
+use Rattle.run_content.specs.declared.Run.{Run}
 use Rattle.run.specs.declared.RunAnswer.{RunAnswer}
 
 -- the run that was asked for, with 0; or the refusal's number and the run as it was before the call: that which was given, and for opening, which is given none,

@@ -5,12 +5,14 @@ use Prim.Native.Nat.{ℕ, _+_, _-_}
 use lib.Dec.{ltb}
 use Rattle.answers.specs.Answer.{Answer}
 use Rattle.answers.specs.Conditions.{asking}
-use Rattle.asked.specs.Asked.{rulesFor, isCovered, monthNamed, yearConditions}
-use Rattle.calendar.specs.declared.Date.{Date}
-use Rattle.calendar.specs.Dates.{dayIn, dateIn}
-use Rattle.kept.specs.declared.Run.{Run}
-use Rattle.kept.specs.Runs.{runOf, isRun}
-use Rattle.held.specs.Held.{dayInRunConditions, dateInRunConditions}
+use Rattle.calendar_range.specs.Range.{rulesFor, isCovered, yearConditions}
+use Rattle.calendar_month.specs.Asked.{monthNamed}
+use Rattle.calendar_date.specs.declared.Date.{Date}
+use Rattle.calendar_date.specs.Dates.{dayIn, dateIn}
+use Rattle.run_content.specs.declared.Run.{Run}
+use Rattle.run_content.specs.Runs.{runOf}
+use Rattle.run_examination.specs.Examined.{isRun}
+use Rattle.run_lookup.specs.Held.{dayInRunConditions, dateInRunConditions}
 
 -- ---- open at a year; extend by the next; drop the oldest
 

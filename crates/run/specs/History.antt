@@ -5,13 +5,14 @@ use mathlib.Core.List.{List, [], _∷_}
 use Prim.Native.Nat.{ℕ, _+_, _-_, _<_, _≤_}
 use lib.Dec.{ltb}
 use Rattle.answers.specs.Answer.{given}
-use Rattle.months.specs.Rules.{Rules}
-use Rattle.asked.specs.Asked.{rulesFor, isCovered}
-use Rattle.calendar.specs.declared.Date.{Date}
-use Rattle.calendar.specs.Dates.{dayOf, dateOf}
-use Rattle.kept.specs.declared.Run.{Run}
-use Rattle.kept.specs.Runs.{runOf, isRun}
-use Rattle.held.specs.Held.{holdsYear, holdsDay, PlaceHas, OnePlace}
+use Rattle.months_rules.specs.Rules.{Rules}
+use Rattle.calendar_range.specs.Range.{rulesFor, isCovered}
+use Rattle.calendar_date.specs.declared.Date.{Date}
+use Rattle.calendar_date.specs.Dates.{dayOf, dateOf}
+use Rattle.run_content.specs.declared.Run.{Run}
+use Rattle.run_content.specs.Runs.{runOf}
+use Rattle.run_examination.specs.Examined.{isRun}
+use Rattle.run_lookup.specs.Held.{holdsYear, holdsDay, PlaceHas, OnePlace}
 use Rattle.run.specs.Calls.{extendOf, dropOf, runDayOf, runDateOf}
 use Rattle.run.specs.Answers.{runAnswer}
 

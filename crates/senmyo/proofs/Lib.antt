@@ -1,4 +1,4 @@
 pub mod PhaseLaws
 pub mod Worked
-pub mod Lengths
+pub mod NearMean
 pub mod OneAnswer

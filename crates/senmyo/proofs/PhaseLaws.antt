@@ -16,15 +16,15 @@ use Rattle.units.specs.declared.Byo.{Byo}
 use Rattle.units.specs.declared.Fen.{Fen}
 use Rattle.units.specs.declared.AnomalySecond.{AnomalySecond}
 use Rattle.units.specs.Units.{fen, fenToByo, byoToAnomalySeconds, wholeDays, fenOfDay, dayByo}
-use Rattle.eclipse.specs.Eclipse.{nodePeriod}
-use Rattle.eclipse.proofs.NodeLaws.{place-within}
-use Rattle.means.specs.Means.{meanNewMoon, meanFullMoon}
-use Rattle.sun.specs.Sun.{sunOf}
-use Rattle.moon.specs.Moon.{moonOf}
+use Rattle.senmyo_means.specs.Means.{meanNewMoon, meanFullMoon}
+use Rattle.senmyo_sun.specs.Sun.{sunOf}
+use Rattle.senmyo_sun.proofs.Bounds.{sun-bounds, sun-first-day}
+use Rattle.senmyo_moon.specs.Moon.{moonOf}
+use Rattle.senmyo_moon.proofs.Rows.{moon-bounds, moon-first-day}
+use Rattle.senmyo_node.specs.Eclipse.{nodePeriod}
+use Rattle.senmyo_node.proofs.NodeLaws.{place-within}
 use Rattle.senmyo.specs.Phases.{corrections, newMoon, advancedDay}
 use Rattle.senmyo.specs.FullMoons.{correctionToByo, fullMoonSky}
-use Rattle.sun.proofs.Bounds.{sun-bounds, sun-first-day}
-use Rattle.moon.proofs.Rows.{moon-bounds, moon-first-day}
 
 pub sun-small : (m : Byo) → Small (sunOf m) (1526 + 1526)
 sun-small m = small-between 1526 1526 (sun-bounds m)

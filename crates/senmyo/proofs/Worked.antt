@@ -3,9 +3,9 @@ use Prim.Native.Nat.{ℕ}
 use lib.IntN.{ℤ}
 use Rattle.numbers.specs.Rounding.{nearest}
 use Rattle.units.specs.Units.{fenToByo, byoToAnomalySeconds}
-use Rattle.sun.specs.Sun.{solsticeRow, laterRows, placeIn, sunPlace, afterDays, onDay, sunShare, sunOf}
-use Rattle.moon.specs.Moon.{upperRows, lowerRows, shareOf, inRow, halfOf, moonOf}
-use Rattle.means.specs.Means.{meanNewMoon}
+use Rattle.senmyo_means.specs.Means.{meanNewMoon}
+use Rattle.senmyo_sun.specs.Sun.{solsticeRow, laterRows, placeIn, sunPlace, afterDays, onDay, sunShare, sunOf}
+use Rattle.senmyo_moon.specs.Moon.{upperRows, lowerRows, shareOf, inRow, halfOf, moonOf}
 use Rattle.senmyo.specs.Phases.{corrections, newMoon, advancedDay, newMoonDay}
 
 -- both corrections at mean new moon k

@@ -1,14 +1,14 @@
--- The full moon of a month (01, "Lunar eclipse, Senmyo only", the first two sentences; what the node's place is stands in `eclipse`).
+-- The full moon of a month (01, "Lunar eclipse, Senmyo only", the first two sentences; what the node's place is stands in `senmyo_node`).
 use Prim.Native.Nat.{ℕ}
 use lib.IntN.{ℤ, pos, _+ℤ_, _*ℤ_}
 use Rattle.numbers.specs.Sign.{whole}
 use Rattle.units.specs.declared.Fen.{Fen}
 use Rattle.units.specs.declared.Byo.{Byo}
 use Rattle.units.specs.Units.{byo, byoToFen}
-use Rattle.eclipse.specs.declared.Node.{Node}
-use Rattle.eclipse.specs.Eclipse.{nodePlace, nodeOf}
-use Rattle.sun.specs.Sun.{sunOf}
-use Rattle.means.specs.Means.{meanFullMoon}
+use Rattle.senmyo_means.specs.Means.{meanFullMoon}
+use Rattle.senmyo_sun.specs.Sun.{sunOf}
+use Rattle.senmyo_node.specs.declared.Node.{Node}
+use Rattle.senmyo_node.specs.Eclipse.{nodePlace, nodeOf}
 use Rattle.senmyo.specs.declared.Sky.{Sky}
 use Rattle.senmyo.specs.Phases.{moonAt, corrections}
 

@@ -7,9 +7,9 @@ use Rattle.numbers.specs.Sign.{whole}
 use Rattle.units.specs.declared.Fen.{Fen}
 use Rattle.units.specs.declared.Byo.{Byo}
 use Rattle.units.specs.Units.{fen, fenToByo, byoToAnomalySeconds, wholeDays, fenOfDay}
-use Rattle.means.specs.Means.{meanNewMoon}
-use Rattle.sun.specs.Sun.{sunOf}
-use Rattle.moon.specs.Moon.{moonOf}
+use Rattle.senmyo_means.specs.Means.{meanNewMoon}
+use Rattle.senmyo_sun.specs.Sun.{sunOf}
+use Rattle.senmyo_moon.specs.Moon.{moonOf}
 
 -- the Moon's correction at a mean moment, in fen
 abbrev pub moonAt : Byo → ℤ

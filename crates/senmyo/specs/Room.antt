@@ -3,7 +3,7 @@ use Prim.Native.Nat.{ℕ, _+_, _-_, _*_, _/_, _<_, _≤_, _^_}
 use lib.IntN.{ℤ, pos, natAbs, _+ℤ_}
 use lib.Signed.{_≤ℤ_}
 use Rattle.units.specs.Units.{dayFen}
-use Rattle.means.specs.Means.{meanNewMoon}
+use Rattle.senmyo_means.specs.Means.{meanNewMoon}
 
 -- a count, and what moves it no farther back than to zero
 pub record Movable (count : ℕ) (by : ℤ) : Type 0 where

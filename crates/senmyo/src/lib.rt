@@ -1,9 +1,9 @@
-use eclipse::NodeSecond;
-use means::MONTH;
-pub use means::mean_full_moon;
-pub use means::mean_new_moon;
-pub use moon::moon_of;
-pub use sun::sun_of;
+use senmyo_means::MONTH;
+use senmyo_means::mean_full_moon;
+use senmyo_means::mean_new_moon;
+use senmyo_moon::moon_of;
+use senmyo_node::NodeSecond;
+use senmyo_sun::sun_of;
 use units::BYO_IN_FEN;
 use units::Byo;
 use units::FEN_IN_DAY;
@@ -103,7 +103,7 @@ pub fn full_moon_sky(number: u32) -> Sky
     let sun = sun_of(mean);
     let moon = moon_at(mean);
     let moment = Byo(moved(mean.0, correction_to_byo(sun + moon)));
-    let node = eclipse::node_place(mean, sun, moon);
+    let node = senmyo_node::node_place(mean, sun, moon);
     Sky {
         mean,
         sun,

@@ -7,14 +7,16 @@ use native.Mathlib.Omega.{arith}
 use lib.ListN.{replicate}
 use Rattle.answers.specs.Answer.{given, refused, then}
 use Rattle.answers.specs.Conditions.{asking}
-use Rattle.moons.proofs.Figures.{eclipse-1522}
-use Rattle.calendar.proofs.OneDate.{date-of-day-of}
-use Rattle.calendar.proofs.Figures.{months-1522, day-643, leap-643}
-use Rattle.record.specs.Tagged.{numbersOf}
-use Rattle.record.specs.Record.{layout}
-use Rattle.record.proofs.Figures.{printed-1522, read-1522}
-use Rattle.kept.specs.Runs.{dateNumber}
-use Rattle.sieveflicker.specs.Numbers.{numberIn, placesNumbers, yearNumbers, eclipseNumbers}
+use Rattle.calendar_moons.proofs.Figures.{eclipse-1522}
+use Rattle.calendar_date.specs.Dates.{dateNumber}
+use Rattle.calendar_date.proofs.OneDate.{date-of-day-of}
+use Rattle.calendar_date.proofs.Figures.{day-643, leap-643}
+use Rattle.calendar_year.proofs.Figures.{months-1522}
+use Rattle.record_fields.specs.Tagged.{numbersOf}
+use Rattle.record_fields.specs.Fields.{layout}
+use Rattle.record_fields.proofs.Figures.{printed-1522}
+use Rattle.record.proofs.Figures.{read-1522}
+use Rattle.sieveflicker_numbers.specs.Numbers.{numberIn, placesNumbers, yearNumbers, eclipseNumbers}
 use Rattle.sieveflicker.specs.Exported.{dayNumberOf, dateNumberOf, yearWritten, eclipseWritten, fieldsWritten}
 use Rattle.sieveflicker.proofs.Written.{year-follows, eclipse-follows, fields-follow}
 

@@ -1,4 +1,3 @@
-pub mod Memory
 pub mod Written
 pub mod Sizes
 pub mod Told

@@ -11,13 +11,15 @@ use lib.ListN.{length, getD, drop}
 use Rattle.answers.specs.Answer.{given, refused}
 use Rattle.answers.specs.Conditions.{AllHold, FirstFails, Exactly}
 use Rattle.answers.proofs.Conditions.{given-exactly, refused-exactly}
-use Rattle.asked.specs.Asked.{isCalendar, rulesFor, isCovered, monthNamed, hasMonth}
-use Rattle.moons.specs.Eclipses.{eclipseIn, isSenmyo}
-use Rattle.moons.specs.Instants.{moonsIn}
-use Rattle.calendar.specs.Years.{yearIn}
-use Rattle.record.specs.Tagged.{numbersOf, numbersAt, tagsAt, same}
-use Rattle.record.specs.Record.{layout, size, fieldsFor}
-use Rattle.sieveflicker.specs.Numbers.{asksLeap, yearNumbers, eclipseNumbers, moonsNumbers}
+use Rattle.calendar_range.specs.Range.{isCalendar, rulesFor, isCovered}
+use Rattle.calendar_month.specs.Asked.{monthNamed, hasMonth}
+use Rattle.calendar_moons.specs.Eclipses.{eclipseIn, isSenmyo}
+use Rattle.calendar_moons.specs.Instants.{moonsIn}
+use Rattle.calendar_year.specs.Years.{yearIn}
+use Rattle.record_fields.specs.Tagged.{numbersOf, numbersAt, tagsAt, same}
+use Rattle.record_fields.specs.Fields.{layout, size}
+use Rattle.record.specs.Record.{fieldsFor}
+use Rattle.sieveflicker_numbers.specs.Numbers.{asksLeap, yearNumbers, eclipseNumbers, moonsNumbers}
 use Rattle.sieveflicker.specs.Exported.{hasRoom, yearWrittenConditions, yearWritten, eclipseWrittenConditions, eclipseWritten, moonsWrittenConditions, moonsWritten, fieldsWrittenConditions, fieldsWritten}
 
 -- ---- a year

@@ -5,16 +5,16 @@ use Prim.Native.Nat.{ℕ}
 use native.Mathlib.Omega.{arith}
 use lib.ListN.{length}
 use Rattle.answers.specs.Answer.{given}
-use Rattle.eclipse.specs.Eclipse.{Graded}
-use Rattle.moons.specs.declared.FullMoon.{FullMoon}
-use Rattle.moons.specs.Eclipses.{eclipseOf}
-use Rattle.moons.proofs.Refusals.{moon-bounded}
-use Rattle.calendar.specs.declared.Year.{Year}
-use Rattle.calendar.specs.Years.{yearOf}
-use Rattle.calendar.proofs.Refusals.{thirteen-places}
-use Rattle.sieveflicker.specs.Numbers.{yearNumbers}
-use Rattle.sieveflicker.specs.Room.{FitsPlaces}
-use Rattle.sieveflicker.proofs.Memory.{places-length}
+use Rattle.senmyo_node.specs.Eclipse.{Graded}
+use Rattle.calendar_moons.specs.declared.FullMoon.{FullMoon}
+use Rattle.calendar_moons.specs.Eclipses.{eclipseOf}
+use Rattle.calendar_moons.proofs.Refusals.{moon-bounded}
+use Rattle.calendar_year.specs.declared.Year.{Year}
+use Rattle.calendar_year.specs.Years.{yearOf}
+use Rattle.calendar_year.proofs.Refusals.{thirteen-places}
+use Rattle.sieveflicker_numbers.specs.Numbers.{yearNumbers}
+use Rattle.sieveflicker_numbers.specs.Room.{FitsPlaces}
+use Rattle.sieveflicker_numbers.proofs.Memory.{places-length}
 
 -- a year's numbers
 pub year-size : (c y : ℕ) (x : Year) → yearOf c y ≡ given x → length (yearNumbers x) ≡ 55

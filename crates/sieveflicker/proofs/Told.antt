@@ -3,10 +3,10 @@ use mathlib.Core.Path.{_≡_, refl}
 use Prim.Native.Nat.{ℕ, _<_, _≤_}
 use native.Mathlib.Omega.{arith}
 use Rattle.answers.specs.Answer.{given, refused}
-use Rattle.calendar.specs.declared.Date.{Date}
-use Rattle.calendar.specs.Dates.{dayOf, dateOf}
-use Rattle.calendar.proofs.Apart.{day-refusal-small, day-large, date-refusal-small, date-year-large}
-use Rattle.sieveflicker.specs.Numbers.{asksLeap}
+use Rattle.calendar_date.specs.declared.Date.{Date}
+use Rattle.calendar_date.specs.Dates.{dayOf, dateOf}
+use Rattle.calendar_date.proofs.Apart.{day-refusal-small, day-large, date-refusal-small, date-year-large}
+use Rattle.sieveflicker_numbers.specs.Numbers.{asksLeap}
 use Rattle.sieveflicker.specs.Exported.{dayNumberOf, dateNumberOf}
 
 module _ (c y m leap d n : ℕ) where

@@ -10,14 +10,15 @@ use lib.Seq.{sets}
 use Rattle.answers.specs.Answer.{Answer, given, refused, then, refusalIn, leftIn}
 use Rattle.answers.specs.Conditions.{asking}
 use Rattle.answers.proofs.Conditions.{then-given}
-use Rattle.moons.specs.Eclipses.{eclipseIn, eclipseOf}
-use Rattle.moons.specs.Instants.{ofMonth, moonsOf}
-use Rattle.calendar.specs.Years.{yearOf}
-use Rattle.record.specs.Tagged.{numbersOf}
-use Rattle.record.specs.Record.{layout, readOf}
-use Rattle.sieveflicker.specs.Numbers.{asksLeap, yearNumbers, eclipseNumbers, moonsNumbers}
+use Rattle.calendar_moons.specs.Eclipses.{eclipseIn, eclipseOf}
+use Rattle.calendar_moons.specs.Instants.{ofMonth, moonsOf}
+use Rattle.calendar_year.specs.Years.{yearOf}
+use Rattle.record_fields.specs.Tagged.{numbersOf}
+use Rattle.record_fields.specs.Fields.{layout}
+use Rattle.record.specs.Record.{readOf}
+use Rattle.sieveflicker_numbers.specs.Numbers.{asksLeap, yearNumbers, eclipseNumbers, moonsNumbers}
+use Rattle.sieveflicker_numbers.proofs.Memory.{sets-front}
 use Rattle.sieveflicker.specs.Exported.{hasRoom, yearWritten, eclipseWritten, moonsWritten, fieldsWritten}
-use Rattle.sieveflicker.proofs.Memory.{sets-front}
 
 -- refused in memory that is too short, and else what is answered, as so many numbers before the rest of the memory
 pub record Follows {A B : Type 0} (size : ℕ) (numbers : A → List B) (answer : Answer A) (out : List B) (written : Answer (List B)) : Type 0 where

@@ -8,15 +8,16 @@ use lib.Ieee.{Float}
 use lib.ListN.{length, drop}
 use Rattle.answers.specs.Answer.{Answer, given, then}
 use Rattle.answers.specs.Conditions.{asking}
-use Rattle.asked.specs.Asked.{rulesFor, monthNamed, yearConditions, monthConditions}
-use Rattle.moons.specs.Eclipses.{eclipseIn, eclipseConditions}
-use Rattle.moons.specs.Instants.{moonsIn}
-use Rattle.calendar.specs.Dates.{dayOf, dateOf}
-use Rattle.calendar.specs.Years.{yearIn}
-use Rattle.record.specs.Tagged.{numbersOf, numbersAt}
-use Rattle.record.specs.Record.{layout, fieldsFor, readConditions}
-use Rattle.kept.specs.Runs.{dateNumber}
-use Rattle.sieveflicker.specs.Numbers.{asksLeap, numberIn, yearNumbers, eclipseNumbers, moonsNumbers}
+use Rattle.calendar_range.specs.Range.{rulesFor, yearConditions}
+use Rattle.calendar_month.specs.Asked.{monthNamed, monthConditions}
+use Rattle.calendar_moons.specs.Eclipses.{eclipseIn, eclipseConditions}
+use Rattle.calendar_moons.specs.Instants.{moonsIn}
+use Rattle.calendar_date.specs.Dates.{dayOf, dateOf, dateNumber}
+use Rattle.calendar_year.specs.Years.{yearIn}
+use Rattle.record_fields.specs.Tagged.{numbersOf, numbersAt}
+use Rattle.record_fields.specs.Fields.{layout}
+use Rattle.record.specs.Record.{fieldsFor, readConditions}
+use Rattle.sieveflicker_numbers.specs.Numbers.{asksLeap, numberIn, yearNumbers, eclipseNumbers, moonsNumbers}
 
 -- the day number
 abbrev pub dayNumberOf : ℕ → ℕ → ℕ → ℕ → ℕ → ℕ

@@ -37,5 +37,5 @@ fn read_line(buffer: &mut [u8]) -> usize
 fn main() {
     let mut buffer = [0u8; 20];
     let read = read_line(&mut buffer);
-    paper::print_answer(&buffer[..read]);
+    year_print::print_answer(&buffer[..read]);
 }

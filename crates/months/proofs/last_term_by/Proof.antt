@@ -3,9 +3,9 @@ use mathlib.Core.Path.{_≡_, ap}
 use Prim.Native.Nat.{_+_, _<_, _≤_, _^_}
 use native.Mathlib.Omega.{arith}
 use borrow.Author.Needs.{needs}
-use Rattle.months.specs.Rules.{rulesOf}
+use Rattle.months_rules.specs.Rules.{rulesOf}
+use Rattle.months_rules.proofs.Calendars.{sizes, steady}
 use Rattle.months.specs.Months.{lastTerm, isLeap}
-use Rattle.months.proofs.Calendars.{sizes, steady}
 use Rattle.months.proofs.last_term_by.Statement.{statement}
 use Rattle.months.proofs.last_term_by.Tie as tie
 

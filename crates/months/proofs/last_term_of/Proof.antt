@@ -9,11 +9,11 @@ use lib.Dec.{ltb}
 use Rattle.numbers.specs.Spans.{Holds}
 use Rattle.numbers.proofs.Spans.{span-holds}
 use Rattle.cycles.specs.Cycles.{lastBy, dated}
-use Rattle.months.specs.Rules.{Rules, mid, rulesOf}
+use Rattle.months_rules.specs.Rules.{Rules, mid, rulesOf}
+use Rattle.months_rules.proofs.Steady.{Steady, terms-grow}
+use Rattle.months_rules.proofs.Calendars.{sizes, steady}
 use Rattle.months.specs.Room.{Starting}
 use Rattle.months.specs.Year.{MonthDays}
-use Rattle.months.proofs.Steady.{Steady, terms-grow}
-use Rattle.months.proofs.Calendars.{sizes, steady}
 use Rattle.months.proofs.Terms.{last-told, before-end, not-term-0, past-end, before-start}
 use Rattle.months.proofs.last_term_of.Statement.{statement}
 use Rattle.months.proofs.last_term_of.Tie as tie

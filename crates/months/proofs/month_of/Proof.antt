@@ -1,7 +1,7 @@
 -- `months::month_of` meets its contract: each calendar is asked for its own.
 use native.Mathlib.Omega.{arith}
 use borrow.Author.Needs.{needs}
-use Rattle.months.specs.Rules.{rulesOf}
+use Rattle.months_rules.specs.Rules.{rulesOf}
 use Rattle.months.proofs.month_of.Statement.{statement}
 use Rattle.months.proofs.month_of.Tie as tie
 

@@ -2,8 +2,8 @@
 use mathlib.Core.Path.{_≡_}
 use borrow.Author.Needs.{needs}
 use Rattle.senmyo.specs.Room.{latestMonth}
-use Rattle.months.specs.Rules.{senmyo, rulesOf}
-use Rattle.months.specs.Months.{begun}
+use Rattle.months_rules.specs.Rules.{senmyo, rulesOf}
+use Rattle.months_rules.specs.FirstMonths.{begun}
 use Rattle.months.proofs.SenmyoMonths.{latest-has, latest-from-1, before-has}
 use Rattle.months.proofs.senmyo_month.Statement.{statement}
 use Rattle.months.proofs.senmyo_month.Tie as tie

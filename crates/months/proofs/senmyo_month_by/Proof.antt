@@ -2,7 +2,7 @@
 use mathlib.Core.Path.{_≡_, sym, _∙_}
 use borrow.Author.Needs.{needs}
 use Rattle.senmyo.specs.Room.{latestMonth, sureMonth}
-use Rattle.senmyo.proofs.Lengths.{sure-begun}
+use Rattle.senmyo.proofs.NearMean.{sure-begun}
 use Rattle.months.proofs.SenmyoMonths.{latest-has, before-has}
 use Rattle.months.proofs.senmyo_month_by.Statement.{statement}
 use Rattle.months.proofs.senmyo_month_by.Tie as tie

@@ -2,10 +2,11 @@
 use mathlib.Core.Path.{_≡_, sym, ap, _∙_}
 use borrow.Author.Needs.{needs}
 use Rattle.answers.specs.Answer.{given}
-use Rattle.record.specs.Tagged.{numbersOf}
-use Rattle.record.specs.Room.{fieldsOf}
-use Rattle.record.specs.Answers.{recordAnswer}
-use Rattle.record.proofs.Steps.{fields-refuse, fields-give, accepted-then, differs, agrees}
+use Rattle.record_fields.specs.Tagged.{numbersOf}
+use Rattle.record_fields.specs.Room.{fieldsOf}
+use Rattle.record_fields.specs.Answers.{recordAnswer}
+use Rattle.record_fields.proofs.Steps.{fields-refuse, fields-give}
+use Rattle.record.proofs.Steps.{accepted-then, differs, agrees}
 use Rattle.record.proofs.accepted.Statement.{statement}
 use Rattle.record.proofs.accepted.Tie as tie
 

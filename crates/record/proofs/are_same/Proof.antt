@@ -7,7 +7,7 @@ use lib.ListN.{length, drop}
 use lib.Dec.{eqb}
 use borrow.Author.Tests.{eq-eqb, ne-eqb}
 use Rattle.numbers.proofs.Same.{same-on, not-same-on, same-end}
-use Rattle.record.specs.Tagged.{same}
+use Rattle.record_fields.specs.Tagged.{same}
 use Rattle.record.proofs.Same.{not-same}
 use Rattle.record.proofs.are_same.Statement.{statement}
 use Rattle.record.proofs.are_same.Tie as tie

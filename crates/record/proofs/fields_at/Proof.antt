@@ -2,7 +2,7 @@
 use Prim.Native.Nat.{ℕ, _<_, _^_}
 use native.Mathlib.Omega.{arith}
 use borrow.Author.Needs.{needs}
-use Rattle.record.specs.Tagged.{numberAt, numbersOf, numbersAt}
+use Rattle.record_fields.specs.Tagged.{numberAt, numbersOf, numbersAt}
 use Rattle.record.proofs.Numbers.{number-small}
 use Rattle.record.proofs.fields_at.Statement.{statement}
 use Rattle.record.proofs.fields_at.Tie as tie

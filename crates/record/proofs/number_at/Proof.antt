@@ -5,7 +5,7 @@ use native.Mathlib.Omega.{arith}
 use native.Mathlib.Numerals.{add-one}
 use borrow.Author.Needs.{needs}
 use lib.ListN.{length, getD}
-use Rattle.record.specs.Tagged.{numberAt}
+use Rattle.record_fields.specs.Tagged.{numberAt}
 use Rattle.record.specs.Room.{NumberThere}
 use Rattle.record.proofs.Numbers.{three-bytes, one-byte-more}
 use Rattle.record.proofs.number_at.Statement.{statement}

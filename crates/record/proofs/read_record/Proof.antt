@@ -3,11 +3,11 @@ use mathlib.Core.Path.{_≡_, sym, ap, _∙_}
 use native.Mathlib.Omega.{arith}
 use borrow.Author.Needs.{needs}
 use borrow.Author.Tests.{eq-eqb, ne-eqb, not-true, not-false}
-use Rattle.record.specs.Tagged.{tagsAt, same}
-use Rattle.record.specs.Record.{layout}
+use Rattle.record_fields.specs.Tagged.{tagsAt, same}
+use Rattle.record_fields.specs.Fields.{layout}
+use Rattle.record_fields.specs.Answers.{recordAnswer}
 use Rattle.record.specs.Room.{acceptedOf}
-use Rattle.record.specs.Answers.{recordAnswer}
-use Rattle.record.proofs.YearFields.{tags-told}
+use Rattle.record.proofs.OwnBytes.{tags-told}
 use Rattle.record.proofs.Refusals.{read-refused-6, read-refused-7}
 use Rattle.record.proofs.Steps.{right-tags}
 use Rattle.record.proofs.read_record.Statement.{statement}

@@ -3,8 +3,9 @@ use mathlib.Core.Path.{sym, ap}
 use borrow.Author.Needs.{needs}
 use borrow.Author.Tests.{lt-leb}
 use Rattle.answers.specs.Answer.{refusalIn, leftIn}
+use Rattle.record_fields.proofs.Steps.{fields-refuse, fields-give}
 use Rattle.record.proofs.Refusals.{write-refused-6}
-use Rattle.record.proofs.Steps.{fields-refuse, fields-give, write-then, copied}
+use Rattle.record.proofs.Steps.{write-then, copied}
 use Rattle.record.proofs.write_record.Statement.{statement}
 use Rattle.record.proofs.write_record.Tie as tie
 

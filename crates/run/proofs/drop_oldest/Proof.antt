@@ -3,11 +3,11 @@ use mathlib.Core.Path.{_≡_, refl, sym, ap, _∙_}
 use mathlib.Core.Bool.{true}
 use borrow.Author.Needs.{needs}
 use borrow.Author.Tests.{lt-ltb, le-ltb, not-true, not-false}
-use Rattle.kept.specs.declared.Run.{Run}
-use Rattle.kept.specs.Runs.{isRun}
-use Rattle.kept.proofs.Examined.{is-kept}
+use Rattle.run_content.specs.declared.Run.{Run}
+use Rattle.run_content.proofs.Dropping.{droppable}
+use Rattle.run_examination.specs.Examined.{isRun}
+use Rattle.run_examination.proofs.Examined.{is-kept}
 use Rattle.run.specs.Answers.{runAnswer}
-use Rattle.run.proofs.Dropping.{droppable}
 use Rattle.run.proofs.Refusals.{drop-given, drop-refused-11, drop-refused-10}
 use Rattle.run.proofs.drop_oldest.Statement.{statement}
 use Rattle.run.proofs.drop_oldest.Tie as tie

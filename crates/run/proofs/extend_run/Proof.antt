@@ -4,10 +4,10 @@ use mathlib.Core.Bool.{true}
 use Prim.Native.Nat.{_+_}
 use borrow.Author.Needs.{needs}
 use borrow.Author.Tests.{lt-ltb, le-ltb, not-true, not-false}
-use Rattle.asked.specs.Asked.{rulesFor, isCovered}
-use Rattle.kept.specs.declared.Run.{Run}
-use Rattle.kept.specs.Runs.{isRun}
-use Rattle.kept.proofs.Examined.{is-kept}
+use Rattle.calendar_range.specs.Range.{rulesFor, isCovered}
+use Rattle.run_content.specs.declared.Run.{Run}
+use Rattle.run_examination.specs.Examined.{isRun}
+use Rattle.run_examination.proofs.Examined.{is-kept}
 use Rattle.run.specs.Answers.{runAnswer}
 use Rattle.run.proofs.Refusals.{extend-given, extend-refused-11, extend-refused-2, extend-refused-9}
 use Rattle.run.proofs.Steps.{year-alone, can-extend}

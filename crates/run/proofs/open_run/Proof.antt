@@ -4,8 +4,8 @@ use native.Mathlib.Omega.{arith}
 use borrow.Author.Needs.{needs}
 use Rattle.answers.specs.Answer.{given}
 use Rattle.answers.specs.Conditions.{asking}
-use Rattle.asked.specs.Asked.{yearAsked}
-use Rattle.asked.proofs.Numbers.{calendar-small}
+use Rattle.calendar_range.specs.Range.{yearAsked}
+use Rattle.calendar_range.proofs.Numbers.{calendar-small}
 use Rattle.run.proofs.Steps.{open-asked, opened-room}
 use Rattle.run.proofs.open_run.Statement.{statement}
 use Rattle.run.proofs.open_run.Tie as tie

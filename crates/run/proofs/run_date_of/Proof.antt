@@ -2,7 +2,7 @@
 use mathlib.Core.Path.{sym, _∙_}
 use borrow.Author.Needs.{needs}
 use borrow.Author.Tests.{not-true, not-false}
-use Rattle.kept.proofs.Examined.{is-kept}
+use Rattle.run_examination.proofs.Examined.{is-kept}
 use Rattle.run.proofs.Refusals.{run-date-refused-11}
 use Rattle.run.proofs.Steps.{date-in-it}
 use Rattle.run.proofs.run_date_of.Statement.{statement}

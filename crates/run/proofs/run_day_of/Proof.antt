@@ -2,8 +2,8 @@
 use mathlib.Core.Path.{_≡_, sym, _∙_}
 use mathlib.Core.Bool.{true}
 use borrow.Author.Needs.{needs}
-use Rattle.kept.specs.Runs.{isRun}
-use Rattle.kept.proofs.Examined.{is-kept}
+use Rattle.run_examination.specs.Examined.{isRun}
+use Rattle.run_examination.proofs.Examined.{is-kept}
 use Rattle.run.proofs.Refusals.{run-day-refused-11}
 use Rattle.run.proofs.Steps.{day-in-it}
 use Rattle.run.proofs.run_day_of.Statement.{statement}

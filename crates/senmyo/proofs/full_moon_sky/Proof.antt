@@ -5,7 +5,7 @@ use lib.IntN.{_+ℤ_}
 use borrow.Author.Needs.{needs}
 use Rattle.numbers.proofs.Size.{word, worked-fits, worked-word, told-word}
 use Rattle.units.specs.Units.{byoToAnomalySeconds}
-use Rattle.means.specs.Means.{meanFullMoon}
+use Rattle.senmyo_means.specs.Means.{meanFullMoon}
 use Rattle.senmyo.specs.Phases.{corrections}
 use Rattle.senmyo.specs.FullMoons.{correctionToByo, fullMoonSky}
 use Rattle.senmyo.proofs.PhaseLaws.{sun-small, moon-small, sun-word, moon-word, together, in-byo, after-start}

@@ -4,7 +4,7 @@ use native.Mathlib.Omega.{arith}
 use borrow.Author.Needs.{needs}
 use Rattle.numbers.proofs.Size.{worked-fits, worked-word}
 use Rattle.units.specs.Units.{fenToByo}
-use Rattle.means.specs.Means.{meanNewMoon}
+use Rattle.senmyo_means.specs.Means.{meanNewMoon}
 use Rattle.senmyo.specs.Phases.{newMoon}
 use Rattle.senmyo.proofs.PhaseLaws.{together, new-moon-after-start}
 use Rattle.senmyo.proofs.new_moon.Statement.{statement}

@@ -1,7 +1,7 @@
 -- `senmyo::new_moon_day` meets its contract: it advances the true new moon.
 use native.Mathlib.Omega.{arith}
 use borrow.Author.Needs.{needs}
-use Rattle.senmyo.proofs.Lengths.{new-moon-small}
+use Rattle.senmyo.proofs.NearMean.{new-moon-small}
 use Rattle.senmyo.proofs.new_moon_day.Statement.{statement}
 use Rattle.senmyo.proofs.new_moon_day.Tie as tie
 

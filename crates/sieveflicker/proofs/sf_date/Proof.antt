@@ -3,10 +3,10 @@ use mathlib.Core.Path.{sym, ap, _∙_}
 use Prim.Native.Nat.{ℕ}
 use borrow.Author.Needs.{needs}
 use Rattle.answers.specs.Answer.{Answer, given, then}
-use Rattle.calendar.specs.declared.Date.{Date}
-use Rattle.calendar.specs.Answers.{dateMeans}
-use Rattle.kept.specs.Runs.{dateNumber}
-use Rattle.sieveflicker.specs.Numbers.{numberIn}
+use Rattle.calendar_date.specs.declared.Date.{Date}
+use Rattle.calendar_date.specs.Answers.{dateMeans}
+use Rattle.calendar_date.specs.Dates.{dateNumber}
+use Rattle.sieveflicker_numbers.specs.Numbers.{numberIn}
 use Rattle.sieveflicker.proofs.sf_date.Statement.{statement}
 use Rattle.sieveflicker.proofs.sf_date.Tie as tie
 

@@ -1,8 +1,8 @@
 -- `sieveflicker::sf_day` meets its contract: it takes the number out of either answer.
 use mathlib.Core.Path.{sym, ap, _∙_}
 use borrow.Author.Needs.{needs}
-use Rattle.calendar.specs.Answers.{dayMeans}
-use Rattle.sieveflicker.specs.Numbers.{numberIn}
+use Rattle.calendar_date.specs.Answers.{dayMeans}
+use Rattle.sieveflicker_numbers.specs.Numbers.{numberIn}
 use Rattle.sieveflicker.proofs.sf_day.Statement.{statement}
 use Rattle.sieveflicker.proofs.sf_day.Tie as tie
 

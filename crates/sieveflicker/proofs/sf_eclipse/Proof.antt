@@ -3,9 +3,9 @@ use mathlib.Core.Path.{refl, sym, ap, _∙_}
 use native.Mathlib.Omega.{arith}
 use borrow.Author.Needs.{needs}
 use lib.Seq.{sets}
-use Rattle.moons.specs.Answers.{eclipseMeans}
-use Rattle.eclipse.specs.Answers.{gradeMeans}
-use Rattle.sieveflicker.specs.Numbers.{gradeNumbers}
+use Rattle.senmyo_node.specs.Answers.{gradeMeans}
+use Rattle.calendar_moons.specs.Answers.{eclipseMeans}
+use Rattle.sieveflicker_numbers.specs.Numbers.{gradeNumbers}
 use Rattle.sieveflicker.proofs.Written.{eclipse-follows, too-short, passed-on, stored}
 use Rattle.sieveflicker.proofs.Sizes.{moon-fits}
 use Rattle.sieveflicker.proofs.sf_eclipse.Statement.{statement}

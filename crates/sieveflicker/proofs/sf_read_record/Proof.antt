@@ -1,9 +1,7 @@
 -- `sieveflicker::sf_read_record` meets its contract: refused before a number is written, or the five fields are written.
 use mathlib.Core.Path.{refl}
-use native.Mathlib.Omega.{arith}
 use borrow.Author.Needs.{needs}
-use lib.ListN.{length-set}
-use Rattle.record.specs.Tagged.{numbersOf}
+use Rattle.record_fields.specs.Tagged.{numbersOf}
 use Rattle.record.proofs.Steps.{read-refuses, read-gives}
 use Rattle.sieveflicker.proofs.Written.{fields-follow, too-short, passed-on, stored}
 use Rattle.sieveflicker.proofs.sf_read_record.Statement.{statement}
@@ -18,38 +16,14 @@ returns-2 c =
     let at = asked .before .before .before .before .args in
     passed-on (fields-follow (at .bytes .now) (at .out .now)) _ (asked .before .if1 .left) (read-refuses _ _ (asked .read-record .ensures) (c .if2 .taken))
 
-slice-write-out-2 : tie.Need-slice-write-out-2
-slice-write-out-2 c = rw length-set (omega (arith, c .before .before .before .before .before .before .if1 .left))
-
-slice-write-out-3 : tie.Need-slice-write-out-3
-slice-write-out-3 c = rw (length-set, length-set) (omega (arith, c .before .before .before .before .before .before .if1 .left))
-
-slice-write-out-4 : tie.Need-slice-write-out-4
-slice-write-out-4 c = rw (length-set, length-set, length-set) (omega (arith, c .before .before .before .before .before .before .before .if1 .left))
-
 returns-3 : tie.Need-returns-3
 unfolding numbersOf
 returns-3 c =
-    let found = c .before .before .before .before .before in
+    let found = c .before .before .before .before in
     let asked = found .before .before in
     let at = asked .before .before .before .before .args in
-    stored (fields-follow (at .bytes .now) (at .out .now)) _ _ (asked .before .if1 .left) (read-gives _ _ (asked .read-record .ensures) (found .if2 .left)) refl refl
+    stored (fields-follow (at .bytes .now) (at .out .now)) _ _ (asked .before .if1 .left) (read-gives _ _ (asked .read-record .ensures) (found .if2 .left)) refl (c .before .before .put-fields .ensures)
 
 pub sf-read-record-spec : {M : Type 1} → statement M
 sf-read-record-spec =
-    tie.close
-    (tie.spec
-    returns
-    (λ c κs. search needs)
-    returns-2
-    (λ c. search needs)
-    (λ c. search needs)
-    (λ c. search needs)
-    slice-write-out-2
-    slice-write-out-3
-    (λ c. search needs)
-    slice-write-out-4
-    (λ c. search needs)
-    (λ c. search needs)
-    (λ c. search needs)
-    returns-3)
+    tie.close (tie.spec returns (λ c κs. search needs) returns-2 (λ c κs. search needs) (λ c. search needs) returns-3)

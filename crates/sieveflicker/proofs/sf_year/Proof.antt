@@ -1,6 +1,6 @@
 -- `sieveflicker::sf_year` meets its contract: refused before a number is written, or the year's numbers are written.
 use borrow.Author.Needs.{needs}
-use Rattle.calendar.proofs.Refusals.{year-refuses, year-gives}
+use Rattle.calendar_year.proofs.Refusals.{year-refuses, year-gives}
 use Rattle.sieveflicker.proofs.Written.{year-follows, too-short, passed-on, stored}
 use Rattle.sieveflicker.proofs.Sizes.{year-size}
 use Rattle.sieveflicker.proofs.sf_year.Statement.{statement}

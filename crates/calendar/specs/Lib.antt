@@ -1,5 +1,0 @@
-pub mod Dates
-pub mod Years
-pub mod Demand
-pub mod Answers
-pub mod Room

@@ -1,0 +1,4 @@
+pub mod Covered
+pub mod Steps
+pub mod Numbers
+pub mod OneAnswer

@@ -1,0 +1,3 @@
+pub mod Range
+pub mod Answers
+pub mod Room

@@ -1,0 +1,9 @@
+pub mod Steps
+pub mod Refusals
+pub mod Covered
+pub mod Listed
+pub mod YearLaws
+pub mod Demand
+pub mod FirstDays
+pub mod OneAnswer
+pub mod Figures

@@ -1,0 +1,4 @@
+pub mod Years
+pub mod Demand
+pub mod Answers
+pub mod Room

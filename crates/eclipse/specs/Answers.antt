@@ -1,9 +1,0 @@
--- What each grade stands for.
-use Rattle.eclipse.specs.declared.Grade.{Grade}
-use Rattle.eclipse.specs.declared.Grade.the-variants.{None, Total, Partial}
-use Rattle.eclipse.specs.Eclipse.{Graded, partial, noEclipse, totalEclipse}
-
-abbrev pub gradeMeans : Grade → Graded
-gradeMeans None = noEclipse
-gradeMeans Total = totalEclipse
-gradeMeans (Partial s) = record { kind = partial; parts = s .parts; remainder = s .remainder; strong = s .strong }

@@ -1,6 +1,0 @@
-pub mod Steps
-pub mod DateNumbers
-pub mod Places
-pub mod DateOfDay
-pub mod DayOfDate
-pub mod OneAnswer

@@ -1,0 +1,5 @@
+pub mod Steady
+pub mod FirstMonths
+pub mod Calendars
+pub mod Figures
+pub mod OneAnswer

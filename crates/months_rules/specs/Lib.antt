@@ -1,0 +1,3 @@
+pub mod Rules
+pub mod FirstMonths
+pub mod Room

@@ -1,0 +1,4 @@
+pub mod Tagged
+pub mod Fields
+pub mod Answers
+pub mod Room

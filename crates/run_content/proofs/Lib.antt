@@ -1,0 +1,6 @@
+pub mod Content
+pub mod LastDates
+pub mod Extending
+pub mod Dropping
+pub mod Figures
+pub mod OneAnswer

@@ -1,0 +1,4 @@
+pub mod Same
+pub mod Examined
+pub mod Steps
+pub mod OneAnswer
