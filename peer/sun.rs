@@ -24,10 +24,11 @@ const fn term(days: i64, fen: i64, rate: i64, first: i64, sum_in_fen: i64) -> Te
     }
 }
 
-/// From the winter solstice, the thirteenth being the summer solstice.
+/// From the winter solstice, the thirteenth being the summer solstice. The
+/// second's first is not the one printed in the old manuals: it is mended.
 const TERMS: [Term; 24] = [
     term(14, 4235, -3695, 334_511, 0),
-    term(14, 5235, -3606, 280_389, 449),
+    term(14, 5235, -3606, 280_316, 449),
     term(14, 6235, -3519, 226_998, 823),
     term(14, 7235, -4068, 178_923, 1122),
     term(15, 35, -3998, 117_966, 1346),

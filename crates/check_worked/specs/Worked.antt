@@ -45,7 +45,7 @@ advance y m =
     let k : ℕ = regularMonth senmyo y m in
     (fenOfDay (newMoon k) .0, newMoonDay k - wholeDays (newMoon k))
 
-abbrev twelve : List ℕ
+abbrev pub twelve : List ℕ
 twelve = 1 ∷ 2 ∷ 3 ∷ 4 ∷ 5 ∷ 6 ∷ 7 ∷ 8 ∷ 9 ∷ 10 ∷ 11 ∷ 12 ∷ []
 
 -- 1522: the solstice before it, at 90 fen of a day of cycle 0; the mean new moon of the month 11 before it 121,258 fen earlier

@@ -1,4 +1,5 @@
 pub mod Terms
 pub mod Sizes
+pub mod Sums
 pub mod Bounds
 pub mod OneAnswer

@@ -1,2 +1,3 @@
 pub mod Sun
+pub mod Sums
 pub mod Room

@@ -35,10 +35,10 @@ row days f b rate first sum = record { span = byo (days * dayByo + fenToByo (fen
 unfoldable pub solsticeRow : Row
 solsticeRow = row 14 4235 5 (minus 0_3695) (plus 33_4511) (plus 0)
 
--- the 23 that follow, from Xiaohan to Daxue
+-- the 23 that follow, from Xiaohan to Daxue; Xiaohan's first is mended (02, request 1)
 unfoldable pub laterRows : List Row
 laterRows =
-    row 14 5235 5 (minus 0_3606) (plus 28_0389) (plus 449_0000) ∷
+    row 14 5235 5 (minus 0_3606) (plus 28_0316) (plus 449_0000) ∷
     row 14 6235 5 (minus 0_3519) (plus 22_6998) (plus 823_0000) ∷
     row 14 7235 5 (minus 0_4068) (plus 17_8923) (plus 1122_0000) ∷
     row 15 35 5 (minus 0_3998) (plus 11_7966) (plus 1346_0000) ∷

@@ -24,14 +24,14 @@ const YEAR: Byo = Byo(SOLAR_YEAR.0 * BYO_IN_FEN);
 
 const MEAN_TERM: Byo = Byo(YEAR.0 / 24);
 
-// The 24 true terms from the solstice (003, Table 2).
+// The 24 true terms from the solstice (003, Table 2, with Xiaohan's first mended).
 fn true_term(number: usize) -> Term
     requires { ⌜ number < 24 ⌝ }
     ensures { λ r. ⌜ r ≡ getD sunRows number noRow .term ⌝ }
 {
     match number {
         0 => Term(-0_3695, 33_4511, 0),
-        1 => Term(-0_3606, 28_0389, 449_0000),
+        1 => Term(-0_3606, 28_0316, 449_0000),
         2 => Term(-0_3519, 22_6998, 823_0000),
         3 => Term(-0_4068, 17_8923, 1122_0000),
         4 => Term(-0_3998, 11_7966, 1346_0000),
