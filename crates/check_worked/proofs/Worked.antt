@@ -35,11 +35,11 @@ solstice = (refl, (refl, rw month-11))
 
 sun : Sun
 unfolding sunAt
-sun = of-1522 (λ k. sunOf (fenToByo (meanNewMoon k)))
+sun = rw (of-1522 (λ k. sunOf (fenToByo (meanNewMoon k)))) refl
 
 moon : Moon
 unfolding moonAt
-moon = of-1522 (λ k. moonOf (byoToAnomalySeconds (fenToByo (meanNewMoon k))))
+moon = rw (of-1522 (λ k. moonOf (byoToAnomalySeconds (fenToByo (meanNewMoon k))))) refl
 
 advance : Advance
 unfolding dayAt

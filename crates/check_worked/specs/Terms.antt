@@ -11,9 +11,15 @@ use Rattle.months_rules.specs.Rules.{senmyo}
 use Rattle.calendar_month.specs.Asked.{regularMonth}
 use Rattle.check_worked.specs.Worked.{twelve}
 
--- the true term so many after the solstice's: Xiaohan is 1, Lichun 3, Chunfen 6
+-- the true term so many after the solstice's; 1 is Xiaohan
 abbrev pub after : ℕ → Term
 after n = getD sunRows n noRow .term
+
+abbrev pub lichun : Term
+lichun = after 3
+
+abbrev pub chunfen : Term
+chunfen = after 6
 
 -- the true term that holds the mean new moon of month m of Senmyo's year y, or its mean full moon
 abbrev pub newMoonTerm : ℕ → ℕ → Term
@@ -28,8 +34,8 @@ NewMoons1522 = map (newMoonTerm 1522) twelve ≡ map after (3 ∷ 5 ∷ 6 ∷ 8 
 
 -- the full moon of the eclipse
 abbrev pub FullMoon1522 : Type 0
-FullMoon1522 = fullMoonTerm 1522 2 ≡ after 6
+FullMoon1522 = fullMoonTerm 1522 2 ≡ chunfen
 
 -- month 1 of 1413
 abbrev pub NewMoon1413 : Type 0
-NewMoon1413 = newMoonTerm 1413 1 ≡ after 3
+NewMoon1413 = newMoonTerm 1413 1 ≡ lichun

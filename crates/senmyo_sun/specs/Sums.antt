@@ -9,17 +9,21 @@ use Rattle.units.specs.Units.{dayByo}
 use Rattle.senmyo_sun.specs.declared.Term.{Term}
 use Rattle.senmyo_sun.specs.Sun.{sum, Row, solsticeRow, sunRows, noRow}
 
+-- how long a term lasts, in byo
+abbrev pub long : Row → ℕ
+long r = r .span .0
+
 -- how far the sums go up from a term to the next
 abbrev pub change : Row → Row → ℤ
 change r q = sum (q .term) -ℤ sum (r .term)
 
 -- the mean speed in term q less that in term r: what is to be divided by both lengths
 abbrev pub bend : Row → Row → Row → ℤ
-bend r q s = change q s *ℤ pos (r .span .0) -ℤ change r q *ℤ pos (q .span .0)
+bend r q s = change q s *ℤ pos (long r) -ℤ change r q *ℤ pos (long q)
 
 -- what the parabola's numbers are to be divided by: both lengths, and the two together
 abbrev pub lengths : Row → Row → ℕ
-lengths r q = r .span .0 * q .span .0 * (r .span .0 + q .span .0)
+lengths r q = long r * long q * (long r + long q)
 
 -- what its speed grows by from a day to the next, rounded to the four places
 unfoldable pub rateFrom : Row → Row → Row → ℤ
@@ -29,7 +33,7 @@ rateFrom r q s = nearest (bend r q s *ℤ pos (2 * dayByo * dayByo)) (lengths r 
 unfoldable pub firstFrom : ℕ → Row → Row → Row → ℤ
 firstFrom x r q s =
     nearest
-    ((change r q *ℤ pos (q .span .0 * (r .span .0 + q .span .0)) +ℤ bend r q s *ℤ (pos (2 * x + dayByo) -ℤ pos (r .span .0))) *ℤ pos dayByo)
+    ((change r q *ℤ pos (long q * (long r + long q)) +ℤ bend r q s *ℤ (pos (2 * x + dayByo) -ℤ pos (long r))) *ℤ pos dayByo)
     (lengths r q)
 
 -- a term's numbers from the sums of r, q and s, when it begins x byo after r does
@@ -40,7 +44,7 @@ termFrom x r q s t = (rateFrom r q s, firstFrom x r q s, sum (t .term))
 -- last term of the quarter with the one before
 unfoldable pub quarterFrom : Row → Row → List Row → List Term
 quarterFrom r q [] = []
-quarterFrom r q (s ∷ []) = termFrom 0 r q s r ∷ termFrom (r .span .0) r q s q ∷ []
+quarterFrom r q (s ∷ []) = termFrom 0 r q s r ∷ termFrom (long r) r q s q ∷ []
 quarterFrom r q (s ∷ t ∷ more) = termFrom 0 r q s r ∷ quarterFrom q s (t ∷ more)
 
 -- the quarter that begins with term n

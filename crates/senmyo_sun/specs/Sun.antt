@@ -35,7 +35,7 @@ row days f b rate first sum = record { span = byo (days * dayByo + fenToByo (fen
 unfoldable pub solsticeRow : Row
 solsticeRow = row 14 4235 5 (minus 0_3695) (plus 33_4511) (plus 0)
 
--- the 23 that follow, from Xiaohan to Daxue; Xiaohan's first is mended (02, request 1)
+-- the 23 that follow, from Xiaohan to Daxue; Xiaohan's first is mended (02, request 1) and stands in 000, Table 1
 unfoldable pub laterRows : List Row
 laterRows =
     row 14 5235 5 (minus 0_3606) (plus 28_0316) (plus 449_0000) ∷
