@@ -1,15 +1,15 @@
 //! A plain array of all months of each calendar, in order, to be searched;
-//! their moons and eclipses lie in arrays of their own, in the same order.
+//! their moons, eclipses and hours lie in arrays of their own, in the same order.
 
 use crate::questions::{Date, Day, MonthName, Year};
 use crate::runs::Run;
-use crate::sides::{date_number, eclipse_numbers, put_months, Side};
+use crate::sides::{date_number, eclipse_numbers, hours_numbers, put_months, Side};
 use crate::sieveflicker::raw::{
-    ECLIPSE_NUMBERS, MOONS_NUMBERS, RECORD_BYTES, RECORD_NUMBERS, YEAR_NUMBERS,
+    ECLIPSE_NUMBERS, HOURS_NUMBERS, MOONS_NUMBERS, RECORD_BYTES, RECORD_NUMBERS, YEAR_NUMBERS,
 };
 use peer::calendar::Calendar;
 use peer::months::covered_years;
-use peer::{eclipse, instants};
+use peer::{eclipse, hours, instants};
 
 const LONG_MONTH: u32 = 30;
 
@@ -41,6 +41,8 @@ pub struct Array {
     senmyo_moons: Vec<[f64; MOONS_NUMBERS]>,
     genka_moons: Vec<[f64; MOONS_NUMBERS]>,
     eclipses: Vec<[u32; ECLIPSE_NUMBERS]>,
+    /// None where there is no eclipse.
+    hours: Vec<Option<[u32; HOURS_NUMBERS]>>,
 }
 
 impl Array {
@@ -51,6 +53,7 @@ impl Array {
             senmyo_moons: all_moons(Calendar::Senmyo),
             genka_moons: all_moons(Calendar::Genka),
             eclipses: all_eclipses(),
+            hours: all_hours(),
         }
     }
 
@@ -100,6 +103,11 @@ impl Array {
     fn eclipse_of(&self, month: MonthName) -> Option<[u32; ECLIPSE_NUMBERS]> {
         let place = self.place_of(month.calendar, (month.year, month.month, month.leap))?;
         Some(self.eclipses[place])
+    }
+
+    fn hours_of(&self, month: MonthName) -> Option<[u32; HOURS_NUMBERS]> {
+        let place = self.place_of(month.calendar, (month.year, month.month, month.leap))?;
+        self.hours[place]
     }
 
     fn moons_of(&self, month: MonthName) -> Option<[f64; MOONS_NUMBERS]> {
@@ -182,6 +190,12 @@ fn all_eclipses() -> Vec<[u32; ECLIPSE_NUMBERS]> {
     })
 }
 
+fn all_hours() -> Vec<Option<[u32; HOURS_NUMBERS]>> {
+    of_all_months(Calendar::Senmyo, |new_moon| {
+        hours::of_month(new_moon).as_ref().map(hours_numbers)
+    })
+}
+
 impl Side for Array {
     fn date(&self, day: Day) -> u64 {
         self.date_of(day).map_or(0, |date| {
@@ -244,6 +258,12 @@ impl Side for Array {
     fn eclipse(&self, month: MonthName, numbers: &mut [u32; ECLIPSE_NUMBERS]) {
         if let Some(eclipse) = self.eclipse_of(month) {
             *numbers = eclipse;
+        }
+    }
+
+    fn hours(&self, month: MonthName, numbers: &mut [u32; HOURS_NUMBERS]) {
+        if let Some(hours) = self.hours_of(month) {
+            *numbers = hours;
         }
     }
 

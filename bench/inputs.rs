@@ -4,7 +4,8 @@ use crate::array::Array;
 use crate::questions::{Changed, Date, Day, DayInRun, MonthName, Record, Year};
 use crate::runs::{Change, Run};
 use peer::calendar::{self, Calendar};
-use peer::months;
+use peer::eclipse;
+use peer::months::{self, Month};
 use std::ops::RangeInclusive;
 
 /// So many that no processor learns the course of a search by heart.
@@ -83,10 +84,20 @@ pub fn years(random: &mut Random) -> Vec<Year> {
 }
 
 pub fn months_of(random: &mut Random, calendars: &[Calendar]) -> Vec<MonthName> {
+    random.draw(&names(calendars, |_| true))
+}
+
+pub fn eclipsed_months(random: &mut Random) -> Vec<MonthName> {
+    let eclipsed = |month: &Month| eclipse::of_month(month.new_moon).happens();
+    random.draw(&names(&[Calendar::Senmyo], eclipsed))
+}
+
+fn names(calendars: &[Calendar], named: impl Fn(&Month) -> bool) -> Vec<MonthName> {
     let mut names = Vec::new();
     for &calendar in calendars {
         for year in months::covered_years(calendar) {
-            names.extend(year.months.iter().map(|month| MonthName {
+            let months = year.months.iter().filter(|month| named(month));
+            names.extend(months.map(|month| MonthName {
                 calendar: calendar.number() as u32,
                 year: year.number as u32,
                 month: month.number as u32,
@@ -94,7 +105,7 @@ pub fn months_of(random: &mut Random, calendars: &[Calendar]) -> Vec<MonthName> 
             }));
         }
     }
-    random.draw(&names)
+    names
 }
 
 /// A run of so many years from each covered year that so many and one more

@@ -15,7 +15,7 @@ use array::Array;
 use inputs::Random;
 use measure::compare;
 use peer::calendar::{self, Calendar};
-use questions::{Day, EclipseOf, MonthsOf, MoonsOf, RecordOf};
+use questions::{Day, EclipseOf, HoursOf, MonthsOf, MoonsOf, RecordOf};
 use runs::Change;
 use sides::{Library, Peer, Sides};
 
@@ -62,6 +62,9 @@ fn compare_moons(sides: &Sides, random: &mut Random) {
     let of_senmyo = inputs::months_of(random, &[Calendar::Senmyo]);
     let eclipses: Vec<EclipseOf> = of_senmyo.into_iter().map(EclipseOf).collect();
     compare(sides, "an eclipse", &eclipses);
+    let eclipsed = inputs::eclipsed_months(random);
+    let hours: Vec<HoursOf> = eclipsed.into_iter().map(HoursOf).collect();
+    compare(sides, "the hours of an eclipse", &hours);
     let of_both = inputs::months_of(random, &calendar::ALL);
     let moons: Vec<MoonsOf> = of_both.into_iter().map(MoonsOf).collect();
     compare(sides, "both moons of a month", &moons);

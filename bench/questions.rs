@@ -4,7 +4,7 @@
 use crate::runs::{Change, Run};
 use crate::sides::Side;
 use crate::sieveflicker::raw::{
-    ECLIPSE_NUMBERS, MOONS_NUMBERS, RECORD_BYTES, RECORD_NUMBERS, YEAR_NUMBERS,
+    ECLIPSE_NUMBERS, HOURS_NUMBERS, MOONS_NUMBERS, RECORD_BYTES, RECORD_NUMBERS, YEAR_NUMBERS,
 };
 
 pub trait Question {
@@ -50,6 +50,8 @@ pub struct MonthName {
 }
 
 pub struct EclipseOf(pub MonthName);
+
+pub struct HoursOf(pub MonthName);
 
 pub struct MoonsOf(pub MonthName);
 
@@ -104,6 +106,14 @@ impl Question for EclipseOf {
     fn put_to<S: Side>(&self, side: &S) -> u64 {
         let mut numbers = [0; ECLIPSE_NUMBERS];
         side.eclipse(self.0, &mut numbers);
+        numbers.into_iter().map(u64::from).sum()
+    }
+}
+
+impl Question for HoursOf {
+    fn put_to<S: Side>(&self, side: &S) -> u64 {
+        let mut numbers = [0; HOURS_NUMBERS];
+        side.hours(self.0, &mut numbers);
         numbers.into_iter().map(u64::from).sum()
     }
 }

@@ -6,9 +6,9 @@ use crate::array::Array;
 use crate::questions::{Date, Day, MonthName, Year};
 use crate::runs::Runs;
 use crate::sieveflicker::raw::{
-    self, ECLIPSE_NUMBERS, MOONS_NUMBERS, RECORD_BYTES, RECORD_NUMBERS, YEAR_NUMBERS,
+    self, ECLIPSE_NUMBERS, HOURS_NUMBERS, MOONS_NUMBERS, RECORD_BYTES, RECORD_NUMBERS, YEAR_NUMBERS,
 };
-use peer::{dates, eclipse, instants, months, record};
+use peer::{dates, eclipse, hours, instants, months, record};
 
 pub trait Side: Runs {
     /// As year * 10000 + month * 100 + day, and 100000000 more in a leap month.
@@ -18,6 +18,7 @@ pub trait Side: Runs {
     fn write_record(&self, year: Year, bytes: &mut [u8; RECORD_BYTES]);
     fn read_record(&self, bytes: &[u8; RECORD_BYTES], numbers: &mut [u32; RECORD_NUMBERS]);
     fn eclipse(&self, month: MonthName, numbers: &mut [u32; ECLIPSE_NUMBERS]);
+    fn hours(&self, month: MonthName, numbers: &mut [u32; HOURS_NUMBERS]);
     /// The new moon and the full moon.
     fn moons(&self, month: MonthName, dates: &mut [f64; MOONS_NUMBERS]);
 }
@@ -59,6 +60,16 @@ impl Side for Library {
 
     fn eclipse(&self, month: MonthName, numbers: &mut [u32; ECLIPSE_NUMBERS]) {
         raw::eclipse(
+            month.calendar.into(),
+            month.year.into(),
+            month.month.into(),
+            month.leap.into(),
+            numbers,
+        );
+    }
+
+    fn hours(&self, month: MonthName, numbers: &mut [u32; HOURS_NUMBERS]) {
+        raw::hours(
             month.calendar.into(),
             month.year.into(),
             month.month.into(),
@@ -126,6 +137,18 @@ impl Side for Peer {
         }
     }
 
+    fn hours(&self, month: MonthName, numbers: &mut [u32; HOURS_NUMBERS]) {
+        let asked = hours::asked(
+            month.calendar.into(),
+            month.year.into(),
+            month.month.into(),
+            month.leap,
+        );
+        if let Ok(hours) = asked {
+            *numbers = hours_numbers(&hours);
+        }
+    }
+
     fn moons(&self, month: MonthName, dates: &mut [f64; MOONS_NUMBERS]) {
         let asked = instants::asked(
             month.calendar.into(),
@@ -150,6 +173,10 @@ fn month_numbers(month: &months::Month) -> [u32; 4] {
 
 pub fn eclipse_numbers(eclipse: &eclipse::Eclipse) -> [u32; ECLIPSE_NUMBERS] {
     eclipse.numbers().map(|number| number as u32)
+}
+
+pub fn hours_numbers(hours: &hours::Hours) -> [u32; HOURS_NUMBERS] {
+    hours.numbers().map(|number| number as u32)
 }
 
 pub fn date_number(year: u64, month: u64, leap: bool, day: u64) -> u64 {

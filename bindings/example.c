@@ -1,5 +1,5 @@
 /* How a C program asks the library: the day of a date and the date of a day, a refusal, a year, an
- * eclipse, a month's moons and a record. */
+ * eclipse and its hours, a month's moons and a record. */
 #include "sieveflicker.h"
 
 #include <inttypes.h>
@@ -62,6 +62,21 @@ static void show_eclipse(void)
         printf("eclipsed by %" PRIu32 " parts and %" PRIu32 ", %s\n", moon[5], moon[6], moon[7] ? "strong" : "weak");
 }
 
+static void show_time(const char *name, const uint32_t *time, const char *after)
+{
+    printf("%s on day %" PRIu32 ", fen %" PRIu32 ", ke %" PRIu32 "%s", name, time[0], time[1], time[2], after);
+}
+
+static void show_hours(void)
+{
+    uint32_t hours[SF_HOURS_NUMBERS];
+    expect_answer("an eclipse's hours", sf_hours(SF_SENMYO, 1522, 2, 0, hours, SF_HOURS_NUMBERS));
+    printf("for %" PRIu32 " fen, which is %" PRIu32 " ke and %" PRIu32 " fen\n", hours[0], hours[1], hours[2]);
+    show_time("start", &hours[3], "; ");
+    show_time("middle", &hours[6], "; ");
+    show_time("end", &hours[9], "\n");
+}
+
 static void show_moons(void)
 {
     double moons[SF_MOONS_NUMBERS];
@@ -89,6 +104,7 @@ int main(void)
     show_refusal();
     show_year();
     show_eclipse();
+    show_hours();
     show_moons();
     show_record();
     return EXIT_SUCCESS;

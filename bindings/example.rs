@@ -1,9 +1,9 @@
 //! How a Rust program asks the library: the day of a date and the date of a day,
-//! a refusal, a year, an eclipse, a month's moons and a record.
+//! a refusal, a year, an eclipse and its hours, a month's moons and a record.
 
 mod sieveflicker;
 
-use sieveflicker::{Calendar, Date, Grade, Refusal};
+use sieveflicker::{Calendar, Date, Grade, Refusal, Time};
 
 fn first_day_of(year: u32, month: u32, leap: bool) -> Date {
     Date {
@@ -72,6 +72,24 @@ fn show_eclipse() -> Result<(), Refusal> {
     Ok(())
 }
 
+fn show_time(name: &str, time: Time, after: &str) {
+    let Time { day, fen, ke } = time;
+    print!("{name} on day {day}, fen {fen}, ke {ke}{after}");
+}
+
+fn show_hours() -> Result<(), Refusal> {
+    let hours = sieveflicker::hours(Calendar::Senmyo, 1522, 2, false)?;
+    let length = hours.length;
+    println!(
+        "for {} fen, which is {} ke and {} fen",
+        length.fen, length.whole_ke, length.fen_over
+    );
+    show_time("start", hours.start, "; ");
+    show_time("middle", hours.middle, "; ");
+    show_time("end", hours.end, "\n");
+    Ok(())
+}
+
 fn show_moons() -> Result<(), Refusal> {
     let moons = sieveflicker::moons(Calendar::Genka, 643, 5, false)?;
     println!(
@@ -99,6 +117,7 @@ fn main() -> Result<(), Refusal> {
     show_refusal();
     show_year()?;
     show_eclipse()?;
+    show_hours()?;
     show_moons()?;
     show_record()
 }

@@ -19,11 +19,12 @@
 /* How many numbers, dates or bytes a call writes. */
 #define SF_YEAR_NUMBERS 55
 #define SF_ECLIPSE_NUMBERS 8
+#define SF_HOURS_NUMBERS 12
 #define SF_MOONS_NUMBERS 2
 #define SF_RECORD_NUMBERS 5
 #define SF_RECORD_BYTES 25
 
-/* Refusals. Where several hold, the first of 6, 7, 1, 13, 2, 3, 4, 5, 8 is given. */
+/* Refusals. Where several hold, the first of 6, 7, 1, 13, 2, 3, 14, 4, 5, 8 is given. */
 #define SF_NO_SUCH_CALENDAR 1
 #define SF_YEAR_NOT_COVERED 2
 #define SF_NO_SUCH_MONTH 3        /* not 1 to 12, or a leap month that the year lacks */
@@ -33,6 +34,7 @@
 #define SF_WRONG_TAG_OR_LENGTH 7  /* of a field of the record */
 #define SF_WRONG_FIELD 8          /* the record has a number that its year has not */
 #define SF_ECLIPSE_OF_GENKA 13    /* eclipses are worked out for Senmyo only */
+#define SF_NO_ECLIPSE 14          /* there are no hours: the month's full moon is not eclipsed */
 
 /* Whether an answer of sf_day or sf_date is a refusal's number: days and dates are far above those. */
 #define SF_REFUSED(answer) ((answer) < 100)
@@ -56,6 +58,11 @@ uint8_t sf_year(uint64_t calendar, uint64_t year, uint32_t *out, size_t length);
  * yin); distance from the node in fen; kind of eclipse (0 none, 1 total, 2 partial); parts; remainder; strong (0 or 1).
  * Refusals 6, 1, 13, 2, 3. */
 uint8_t sf_eclipse(uint64_t calendar, uint64_t year, uint64_t month, uint64_t leap, uint32_t *out, size_t length);
+
+/* SF_HOURS_NUMBERS numbers of a month's eclipse: its length in fen, the length's whole ke (of 84 fen) and the fen over
+ * those; then of its start, its middle and its end, one behind the other, the day, the fen of that day and its ke.
+ * Refusals 6, 1, 13, 2, 3, 14. */
+uint8_t sf_hours(uint64_t calendar, uint64_t year, uint64_t month, uint64_t leap, uint32_t *out, size_t length);
 
 /* SF_MOONS_NUMBERS Julian dates: a month's new moon and its full moon. Refusals 6, 1, 2, 3. */
 uint8_t sf_moons(uint64_t calendar, uint64_t year, uint64_t month, uint64_t leap, double *out, size_t length);

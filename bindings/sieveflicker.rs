@@ -78,6 +78,32 @@ pub enum Grade {
     },
 }
 
+/// How long a month's eclipse lasts, and when.
+#[derive(Clone, Copy, Debug, PartialEq, Eq)]
+pub struct Hours {
+    pub length: Length,
+    pub start: Time,
+    pub middle: Time,
+    pub end: Time,
+}
+
+#[derive(Clone, Copy, Debug, PartialEq, Eq)]
+pub struct Length {
+    pub fen: u32,
+    /// Of 84 fen each.
+    pub whole_ke: u32,
+    pub fen_over: u32,
+}
+
+#[derive(Clone, Copy, Debug, PartialEq, Eq)]
+pub struct Time {
+    pub day: u32,
+    /// Of the day's 8,400.
+    pub fen: u32,
+    /// Of the day's hundred.
+    pub ke: u32,
+}
+
 /// A month's new and full moon, as Julian dates.
 #[derive(Clone, Copy, Debug, PartialEq)]
 pub struct Moons {
@@ -107,10 +133,11 @@ pub enum Refusal {
     WrongTagOrLength = 7,
     WrongField = 8,
     EclipseOfGenka = 13,
+    NoEclipse = 14,
 }
 
 impl Refusal {
-    const ALL: [Refusal; 9] = [
+    const ALL: [Refusal; 10] = [
         Refusal::NoSuchCalendar,
         Refusal::YearNotCovered,
         Refusal::NoSuchMonth,
@@ -120,6 +147,7 @@ impl Refusal {
         Refusal::WrongTagOrLength,
         Refusal::WrongField,
         Refusal::EclipseOfGenka,
+        Refusal::NoEclipse,
     ];
 
     pub fn number(self) -> u8 {
@@ -144,6 +172,7 @@ impl Refusal {
             Refusal::WrongTagOrLength => "a tag or a length in the record is wrong",
             Refusal::WrongField => "a field of the record is not what its year has",
             Refusal::EclipseOfGenka => "eclipses are worked out for Senmyo only",
+            Refusal::NoEclipse => "the month has no eclipse",
         }
     }
 }
@@ -234,6 +263,36 @@ pub fn eclipse(calendar: Calendar, year: u32, month: u32, leap: bool) -> Result<
     })
 }
 
+pub fn hours(calendar: Calendar, year: u32, month: u32, leap: bool) -> Result<Hours, Refusal> {
+    let mut numbers = [0; raw::HOURS_NUMBERS];
+    written(raw::hours(
+        calendar.number(),
+        year.into(),
+        month.into(),
+        leap.into(),
+        &mut numbers,
+    ))?;
+    let [fen, whole_ke, fen_over, times @ ..] = numbers;
+    Ok(Hours {
+        length: Length {
+            fen,
+            whole_ke,
+            fen_over,
+        },
+        start: time(&times[..3]),
+        middle: time(&times[3..6]),
+        end: time(&times[6..]),
+    })
+}
+
+fn time(numbers: &[u32]) -> Time {
+    Time {
+        day: numbers[0],
+        fen: numbers[1],
+        ke: numbers[2],
+    }
+}
+
 pub fn moons(calendar: Calendar, year: u32, month: u32, leap: bool) -> Result<Moons, Refusal> {
     let mut dates = [0.0; raw::MOONS_NUMBERS];
     written(raw::moons(
@@ -299,6 +358,7 @@ fn written(answer: u8) -> Result<(), Refusal> {
 pub mod raw {
     pub const YEAR_NUMBERS: usize = 55;
     pub const ECLIPSE_NUMBERS: usize = 8;
+    pub const HOURS_NUMBERS: usize = 12;
     pub const MOONS_NUMBERS: usize = 2;
     pub const RECORD_NUMBERS: usize = 5;
     pub const RECORD_BYTES: usize = 25;
@@ -309,6 +369,14 @@ pub mod raw {
         fn sf_date(calendar: u64, day: u64) -> u64;
         fn sf_year(calendar: u64, year: u64, out: *mut u32, length: usize) -> u8;
         fn sf_eclipse(
+            calendar: u64,
+            year: u64,
+            month: u64,
+            leap: u64,
+            out: *mut u32,
+            length: usize,
+        ) -> u8;
+        fn sf_hours(
             calendar: u64,
             year: u64,
             month: u64,
@@ -351,6 +419,11 @@ pub mod raw {
     pub fn eclipse(calendar: u64, year: u64, month: u64, leap: u64, out: &mut [u32]) -> u8 {
         // SAFETY: `out` is ours to write for the whole call.
         unsafe { sf_eclipse(calendar, year, month, leap, out.as_mut_ptr(), out.len()) }
+    }
+
+    pub fn hours(calendar: u64, year: u64, month: u64, leap: u64, out: &mut [u32]) -> u8 {
+        // SAFETY: `out` is ours to write for the whole call.
+        unsafe { sf_hours(calendar, year, month, leap, out.as_mut_ptr(), out.len()) }
     }
 
     pub fn moons(calendar: u64, year: u64, month: u64, leap: u64, out: &mut [f64]) -> u8 {

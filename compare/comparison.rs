@@ -8,10 +8,10 @@ use std::fmt::Debug;
 use std::mem;
 
 const MOST_SHOWN: u64 = 5;
-const LAST_REFUSAL: usize = 13;
+const LAST_REFUSAL: usize = 14;
 
 /// The refusals that a call of the library can meet.
-const REFUSALS: [usize; 9] = [1, 2, 3, 4, 5, 6, 7, 8, 13];
+const REFUSALS: [usize; 10] = [1, 2, 3, 4, 5, 6, 7, 8, 13, 14];
 
 pub struct Comparison {
     pub generator: Generator,

@@ -15,11 +15,12 @@ const MONTHS: RangeInclusive<u64> = 0..=13;
 type Ask = fn(&mut Comparison, &Listing);
 
 pub fn compare(comparison: &mut Comparison, listings: &[Listing]) {
-    let parts: [(&str, Ask); 7] = [
+    let parts: [(&str, Ask); 8] = [
         ("years", years),
         ("days to dates", days_to_dates),
         ("dates to days", dates_to_days),
         ("eclipses", eclipses),
+        ("hours", hours),
         ("instants", instants),
         ("records written", records_written),
         ("records read", records_read),
@@ -59,6 +60,12 @@ fn dates_to_days(comparison: &mut Comparison, listing: &Listing) {
 fn eclipses(comparison: &mut Comparison, listing: &Listing) {
     for name in names(listing) {
         comparison.ask(Question::Eclipse(name, question::ECLIPSE));
+    }
+}
+
+fn hours(comparison: &mut Comparison, listing: &Listing) {
+    for name in names(listing) {
+        comparison.ask(Question::Hours(name, question::HOURS));
     }
 }
 

@@ -10,6 +10,9 @@ use peer::record;
 /// Where a number kept in fewer bits would begin again.
 pub const WRAPS: [u64; 5] = [1 << 8, 1 << 16, 1 << 31, 1 << 32, 1 << 63];
 
+/// Month 2 of 1522 has an eclipse, so that its hours are answered.
+const ECLIPSED: [u64; 4] = [1, 1522, 2, 0];
+
 const SMALL: [u64; 9] = [0, 1, 2, 3, 12, 13, 29, 30, 31];
 
 pub fn compare(comparison: &mut Comparison, listings: &[Listing], edges: &[u64]) {
@@ -27,16 +30,23 @@ pub fn compare(comparison: &mut Comparison, listings: &[Listing], edges: &[u64])
             Question::Eclipse(numbers, question::ECLIPSE)
         });
         pairs(comparison, edges, name, |numbers| {
+            Question::Hours(numbers, question::HOURS)
+        });
+        pairs(comparison, edges, name, |numbers| {
             Question::Moons(numbers, question::MOONS)
         });
         pairs(comparison, edges, [calendar, year], |numbers| {
             Question::WriteRecord(numbers, question::RECORD)
         });
     }
+    pairs(comparison, edges, ECLIPSED, |numbers| {
+        Question::Hours(numbers, question::HOURS)
+    });
     comparison.end_part("pairs of numbers at edges");
     listings
         .iter()
         .for_each(|listing| lengths(comparison, listing));
+    (0..=MOST_LENT).for_each(|length| comparison.ask(Question::Hours(ECLIPSED, length)));
     comparison.end_part("lengths lent");
 }
 
@@ -133,6 +143,7 @@ fn written_into(comparison: &mut Comparison, name: [u64; 4], length: usize) {
     let [calendar, year, _, _] = name;
     comparison.ask(Question::Year([calendar, year], length));
     comparison.ask(Question::Eclipse(name, length));
+    comparison.ask(Question::Hours(name, length));
     comparison.ask(Question::Moons(name, length));
     comparison.ask(Question::WriteRecord([calendar, year], length));
 }

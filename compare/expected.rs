@@ -5,7 +5,7 @@ use crate::room::{Answer, Filling, Place, LENT_FROM};
 use peer::dates::{self, Date};
 use peer::months::{self, Month, Year};
 use peer::refusal::{self, Refusal};
-use peer::{eclipse, instants, record};
+use peer::{eclipse, hours, instants, record};
 
 const MOST_MONTHS: usize = 13;
 const NUMBERS_OF_A_MONTH: usize = 4;
@@ -24,6 +24,12 @@ pub fn answer(question: &Question, filling: &Filling) -> (Answer, i64) {
             write(filling, length, question::ECLIPSE, || {
                 let eclipse = eclipse::asked(calendar, year, month, leap != 0)?;
                 Ok(eclipse.numbers().map(small).to_vec())
+            })
+        }
+        Question::Hours([calendar, year, month, leap], length) => {
+            write(filling, length, question::HOURS, || {
+                let hours = hours::asked(calendar, year, month, leap != 0)?;
+                Ok(hours.numbers().map(small).to_vec())
             })
         }
         Question::Moons([calendar, year, month, leap], length) => {

@@ -17,6 +17,9 @@ pub fn answer(question: &Question, filling: &Filling) -> Answer {
         Question::Eclipse([calendar, year, month, leap], length) => lend(filling, length, |out| {
             raw::eclipse(calendar, year, month, leap, out)
         }),
+        Question::Hours([calendar, year, month, leap], length) => lend(filling, length, |out| {
+            raw::hours(calendar, year, month, leap, out)
+        }),
         Question::Moons([calendar, year, month, leap], length) => lend(filling, length, |out| {
             raw::moons(calendar, year, month, leap, out)
         }),

@@ -11,6 +11,7 @@ pub enum Question {
     /// Calendar and year.
     Year([u64; 2], usize),
     Eclipse([u64; 4], usize),
+    Hours([u64; 4], usize),
     Moons([u64; 4], usize),
     /// Calendar and year.
     WriteRecord([u64; 2], usize),
@@ -19,6 +20,7 @@ pub enum Question {
 
 pub const YEAR: usize = 55;
 pub const ECLIPSE: usize = 8;
+pub const HOURS: usize = 12;
 pub const MOONS: usize = 2;
 pub const RECORD: usize = 25;
 pub const RECORD_READ: usize = 5;

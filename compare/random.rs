@@ -48,6 +48,12 @@ fn moons(comparison: &mut Comparison, names: &[[u64; 4]], edges: &[u64]) {
     comparison.ask_many(MOONS, |generator| {
         let name = *generator.one_of(names);
         let name = partly_wrong(generator, edges, name);
+        Question::Hours(name, length(generator, question::HOURS))
+    });
+    comparison.end_part("random hours");
+    comparison.ask_many(MOONS, |generator| {
+        let name = *generator.one_of(names);
+        let name = partly_wrong(generator, edges, name);
         Question::Moons(name, length(generator, question::MOONS))
     });
     comparison.end_part("random instants");

@@ -72,6 +72,16 @@ impl Size {
             } => [2, parts, remainder.0, i64::from(strong)],
         }
     }
+
+    /// The parts to the nearest, a strong remainder counting as one more; none
+    /// where there is no eclipse.
+    pub fn rounded_parts(&self) -> Option<i64> {
+        match *self {
+            Size::None => None,
+            Size::Total => Some(PARTS_OF_A_TOTAL_ONE),
+            Size::Partial { parts, strong, .. } => Some(parts + i64::from(strong)),
+        }
+    }
 }
 
 impl Eclipse {
@@ -96,12 +106,17 @@ impl Eclipse {
 }
 
 pub fn asked(calendar: u64, year: u64, month: u64, leap: bool) -> Result<Eclipse, Refusal> {
+    asked_new_moon(calendar, year, month, leap).map(of_month)
+}
+
+/// The new moon of a month of Senmyo.
+pub fn asked_new_moon(calendar: u64, year: u64, month: u64, leap: bool) -> Result<i64, Refusal> {
     if let Calendar::Genka = calendar::numbered(signed(calendar))? {
         return Err(Refusal::EclipseOfGenka);
     }
     let year = months::asked_year(calendar, year)?;
     let month = year.month(signed(month), leap)?;
-    Ok(of_month(month.new_moon))
+    Ok(month.new_moon)
 }
 
 pub fn of_month(new_moon: i64) -> Eclipse {

@@ -11,7 +11,7 @@ use crate::refusal::{self, Refusal};
 use crate::rounding::{floor, nearest};
 use crate::run::{self, Run};
 use crate::units::{AnomalySeconds, Byo, Fen, BYO_IN_A_FEN};
-use crate::{eclipse, genka, moon, record, replies, senmyo, sun};
+use crate::{eclipse, genka, hours, moon, record, replies, senmyo, sun};
 
 /// Every 25 fen of a year, and every 5 fen of the Moon's period.
 const MOMENTS_OF_SUN: i64 = 122_723;
@@ -27,6 +27,22 @@ const INPUTS: [&[u8]; 5] = [
     b"1 0000001522\n",
 ];
 
+/// Eclipses by year, month and whether leap, and what the hours of each show.
+const ECLIPSES: [(&str, u64, u64, bool); 12] = [
+    ("the worked case", 1522, 2, false),
+    ("lower row 14, total, from the day before", 918, 1, false),
+    ("upper row 14, total, to the day after", 1038, 2, false),
+    ("upper row 7 before 7465", 1636, 7, false),
+    ("upper row 7 past 7465, to the day after", 1333, 3, false),
+    ("lower row 7 before 7465, 14 parts strong", 1465, 9, false),
+    ("lower row 7 past 7465", 1171, 6, false),
+    ("14 parts weak, from the day before", 890, 8, false),
+    ("13 parts weak, to 19 fen of the day after", 1066, 2, false),
+    ("the longest, to the day after", 1667, 10, false),
+    ("0 parts strong, the least length above 0", 1365, 2, false),
+    ("0 parts weak, no length", 1300, 7, true),
+];
+
 pub fn all() -> String {
     [
         edges(),
@@ -37,10 +53,12 @@ pub fn all() -> String {
         genka_means(),
         extents(),
         rows(),
+        daily_changes(),
         advance(),
         errors(),
         grades(),
         nodes(),
+        hours_of_eclipses(),
         record_of_1522(),
         lengths(),
         damage(),
@@ -51,6 +69,7 @@ pub fn all() -> String {
         dates_refused(),
         days_refused(),
         eclipses_refused(),
+        hours_refused(),
         program(),
     ]
     .concat()
@@ -225,6 +244,17 @@ fn rows() -> String {
     .concat()
 }
 
+/// Lower row 7 has 7465 fen between two anomaly seconds.
+fn daily_changes() -> String {
+    let moments = [
+        5_786_499, 5_786_500, 10_920_000, 17_359_409, 17_359_410, 22_492_910,
+    ];
+    figure_line(
+        "Moon's change in a day, upper row 7 just before and at 7465 fen, row 14 at 0, then lower row 7 on both sides of 7465, row 14 at 0",
+        &moments.map(|seconds| moon::daily_change(AnomalySeconds(seconds)).0),
+    )
+}
+
 fn advance() -> String {
     figure_line(
         "a new moon at fen 6299 and 6300 of day 0, its day",
@@ -313,6 +343,19 @@ fn nodes() -> String {
 fn side_and_distance(place: i64) -> [i64; 2] {
     let (side, distance) = eclipse::node_of(TenThousandths(place));
     [side.number(), distance.0]
+}
+
+fn hours_of_eclipses() -> String {
+    ECLIPSES.map(hours_line).concat()
+}
+
+fn hours_line((shown, year, month, leap): (&str, u64, u64, bool)) -> String {
+    let Ok(hours) = hours::asked(1, year, month, leap) else {
+        unreachable!("only hours of eclipses are asked for");
+    };
+    let leap = if leap { "leap " } else { "" };
+    let about = format!("hours, {shown}, {year} {leap}month {month}");
+    figure_line(&about, &hours.numbers())
 }
 
 fn record_of_1522() -> String {
@@ -502,6 +545,22 @@ fn eclipses_refused() -> String {
     .map(|(calendar, year, month)| refusal::number(eclipse::asked(calendar, year, month, false)));
     figure_line(
         "eclipses, calendar 3, Genka, 821, 1522 month 13 and month 2",
+        &numbers,
+    )
+}
+
+fn hours_refused() -> String {
+    let numbers = [
+        (3, 0, 0),
+        (2, 0, 0),
+        (1, 821, 0),
+        (1, 1522, 13),
+        (1, 1522, 1),
+        (1, 1522, 2),
+    ]
+    .map(|(calendar, year, month)| refusal::number(hours::asked(calendar, year, month, false)));
+    figure_line(
+        "hours, calendar 3, Genka, 821, 1522 month 13, month 1 and month 2",
         &numbers,
     )
 }

@@ -11,6 +11,7 @@ pub mod dates;
 pub mod eclipse;
 pub mod figures;
 pub mod genka;
+pub mod hours;
 pub mod instants;
 pub mod lines;
 pub mod listing;

@@ -1,4 +1,4 @@
-//! The Moon's correction of a Senmyo moon.
+//! The Moon's correction of a Senmyo moon, and its change in a day.
 
 use crate::rounding::nearest;
 use crate::units::{AnomalySeconds, Fen, ANOMALY_SECONDS_IN_A_FEN, FEN_IN_A_DAY};
@@ -52,43 +52,64 @@ const LOWER: [Row; 14] = [
     Row(646, -646),
 ];
 
-struct Fraction {
-    numerator: i64,
-    denominator: i64,
+/// A day, or one side of the seventh's turn, over which the correction changes
+/// evenly: what it is at the start, and its change, both signed.
+struct Stretch {
+    sum: i64,
+    change: i64,
+    length: i64,
+    passed: i64,
 }
 
 pub fn correction(mean_moment: AnomalySeconds) -> Fen {
+    let stretch = stretch_holding(mean_moment);
+    Fen(nearest(
+        stretch.sum * stretch.length + stretch.change * stretch.passed,
+        stretch.length,
+    ))
+}
+
+pub fn daily_change(mean_moment: AnomalySeconds) -> Fen {
+    Fen(stretch_holding(mean_moment).change)
+}
+
+fn stretch_holding(mean_moment: AnomalySeconds) -> Stretch {
     let thousandths = mean_moment.0 * (THOUSANDTHS / ANOMALY_SECONDS_IN_A_FEN);
     let place = thousandths.rem_euclid(PERIOD);
     if place < HALF_PERIOD {
-        let size = size_in_half(&UPPER, place);
-        Fen(nearest(size.numerator, size.denominator))
+        stretch_in_half(&UPPER, place)
     } else {
-        let size = size_in_half(&LOWER, place - HALF_PERIOD);
-        Fen(nearest(-size.numerator, size.denominator))
+        reversed(stretch_in_half(&LOWER, place - HALF_PERIOD))
     }
 }
 
-fn size_in_half(rows: &[Row; 14], place_in_half: i64) -> Fraction {
+fn reversed(stretch: Stretch) -> Stretch {
+    Stretch {
+        sum: -stretch.sum,
+        change: -stretch.change,
+        ..stretch
+    }
+}
+
+fn stretch_in_half(rows: &[Row; 14], place_in_half: i64) -> Stretch {
     let day = (place_in_half / DAY) as usize;
-    let rest_of_day = place_in_half % DAY;
+    let passed = place_in_half % DAY;
     let Row(sum, change) = rows[day];
+    let whole = |length| Stretch {
+        sum,
+        change,
+        length,
+        passed,
+    };
     match day {
-        6 if rest_of_day > SEVENTH_DAY_TURN => share(
-            sum + change,
-            -SEVENTH_DAY_LOSS,
-            rest_of_day - SEVENTH_DAY_TURN,
-            DAY - SEVENTH_DAY_TURN,
-        ),
-        6 => share(sum, change, rest_of_day, SEVENTH_DAY_TURN),
-        13 => share(sum, change, rest_of_day, LAST_DAY),
-        _ => share(sum, change, rest_of_day, DAY),
-    }
-}
-
-fn share(sum: i64, change: i64, part: i64, whole: i64) -> Fraction {
-    Fraction {
-        numerator: sum * whole + change * part,
-        denominator: whole,
+        6 if passed >= SEVENTH_DAY_TURN => Stretch {
+            sum: sum + change,
+            change: -SEVENTH_DAY_LOSS,
+            length: DAY - SEVENTH_DAY_TURN,
+            passed: passed - SEVENTH_DAY_TURN,
+        },
+        6 => whole(SEVENTH_DAY_TURN),
+        13 => whole(LAST_DAY),
+        _ => whole(DAY),
     }
 }

@@ -16,6 +16,7 @@ pub enum Refusal {
     NotARun = 11,
     NotALine = 12,
     EclipseOfGenka = 13,
+    NoEclipse = 14,
 }
 
 impl Refusal {

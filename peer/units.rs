@@ -3,6 +3,7 @@
 use crate::rounding::floor;
 
 pub const FEN_IN_A_DAY: i64 = 8_400;
+pub const FEN_IN_A_KE: i64 = 84;
 pub const BYO_IN_A_FEN: i64 = 8;
 pub const BYO_IN_A_DAY: i64 = FEN_IN_A_DAY * BYO_IN_A_FEN;
 pub const ANOMALY_SECONDS_IN_A_FEN: i64 = 100;
@@ -35,6 +36,14 @@ impl Fen {
 
     pub fn of_the_day(self) -> Fen {
         Fen(self.0.rem_euclid(FEN_IN_A_DAY))
+    }
+
+    pub fn whole_ke(self) -> i64 {
+        floor(self.0, FEN_IN_A_KE)
+    }
+
+    pub fn over_whole_ke(self) -> Fen {
+        Fen(self.0.rem_euclid(FEN_IN_A_KE))
     }
 }
 

@@ -4,7 +4,7 @@
 use crate::calendar::{self, cycle_number, Calendar};
 use crate::months::{self, covered, Month, Year};
 use crate::units::Fen;
-use crate::{eclipse, record, refusal, run, senmyo};
+use crate::{eclipse, hours, record, refusal, run, senmyo};
 use std::collections::BTreeSet;
 
 const SUN_OF_1522: [i64; 12] = [
@@ -46,6 +46,7 @@ pub fn all() -> Vec<Figure> {
     figures.extend(advances());
     figures.extend(corrections_of_1413());
     figures.extend(eclipse_of_1522());
+    figures.extend(hours_of_1522());
     figures.extend(edges_of_eclipses());
     figures.extend(count_of_eclipses());
     figures.extend(year_643());
@@ -114,6 +115,19 @@ fn eclipse_of_1522() -> Vec<Figure> {
         figure("1522 month 2, parts", parts, 14),
         figure("1522 month 2, remainder", remainder, 412),
         figure("1522 month 2, strong", strong, 1),
+    ]
+}
+
+fn hours_of_1522() -> Vec<Figure> {
+    let Some(hours) = hours::of_month(covered(1, 1522).months[1].new_moon) else {
+        unreachable!("the full moon of 1522 month 2 is eclipsed");
+    };
+    let fen = |time: Fen| time.of_the_day().0;
+    vec![
+        figure("1522 month 2, length", hours.length.0, 1696),
+        figure("1522 month 2, start's fen", fen(hours.start), 5367),
+        figure("1522 month 2, middle's fen", fen(hours.middle), 6215),
+        figure("1522 month 2, end's fen", fen(hours.end), 7063),
     ]
 }
 

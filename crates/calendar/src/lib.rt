@@ -1,4 +1,4 @@
-// The calls: years, days and dates, eclipses and instants.
+// The calls: years, days and dates, eclipses with their hours, and instants.
 pub use calendar_date::Date;
 pub use calendar_date::DateAnswer;
 pub use calendar_date::DayAnswer;
@@ -6,12 +6,16 @@ pub use calendar_date::cycle_of;
 pub use calendar_date::date_number;
 pub use calendar_date::date_of;
 pub use calendar_date::day_of;
-pub use calendar_moons::EclipseAnswer;
-pub use calendar_moons::FullMoon;
+pub use calendar_eclipses::EclipseAnswer;
+pub use calendar_eclipses::FullMoon;
+pub use calendar_eclipses::eclipse_of;
+pub use calendar_hours::Hour;
+pub use calendar_hours::Hours;
+pub use calendar_hours::HoursAnswer;
+pub use calendar_hours::hours_of;
 pub use calendar_moons::Instant;
 pub use calendar_moons::Moons;
 pub use calendar_moons::MoonsAnswer;
-pub use calendar_moons::eclipse_of;
 pub use calendar_moons::full_moon_of;
 pub use calendar_moons::moons_of;
 pub use calendar_moons::new_moon_of;

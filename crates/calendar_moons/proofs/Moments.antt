@@ -3,15 +3,12 @@ use mathlib.Core.Path.{_≡_, refl}
 use Prim.Native.Nat.{ℕ, _+_, _%_, _<_, _≤_, _^_}
 use native.Mathlib.Nat.{mod-lt}
 use native.Mathlib.Omega.{arith}
-use Rattle.units.specs.Units.{wholeDays}
-use Rattle.senmyo.specs.FullMoons.{fullMoonFen}
 use Rattle.months_rules.specs.declared.Calendar.{Calendar}
 use Rattle.months_rules.specs.declared.Calendar.the-variants.{Senmyo, Genka}
 use Rattle.months_rules.specs.declared.Moment.{Moment}
-use Rattle.months_rules.specs.Rules.{Rules, senmyo, daysAt, rulesOf}
+use Rattle.months_rules.specs.Rules.{Rules, daysAt, rulesOf}
 use Rattle.months.specs.Room.{Covering}
-use Rattle.months.proofs.Moments.{moon-days}
-use Rattle.months.proofs.CoveredYears.{edges, its-days, starts-covered, ends-covered}
+use Rattle.months.proofs.Moments.{moon-days, from-start, to-end}
 use Rattle.calendar_moons.specs.declared.Phase.{Phase}
 use Rattle.calendar_moons.specs.declared.Phase.the-variants.{New, Full}
 use Rattle.calendar_moons.specs.Instants.{ExactNumerator}
@@ -39,31 +36,13 @@ dated r t u from to =
     }
 
 module _ (c : Calendar) (k : ℕ) (h : Covering (rulesOf c) k) where
-  -- the first day of a covered month, and the last, beside day number 0
-  from-start : rulesOf c .dayZero + 3 ≤ rulesOf c .start k
-  from-start = omega (arith, starts-covered c k h, edges c .first-day)
-
-  to-end : rulesOf c .start k + 29 < rulesOf c .dayZero + 2 ^ 22
-  to-end = omega (arith, its-days c k h .at-least, ends-covered c k h, edges c .last-day)
-
   pub moon-dated : (phase : Phase) → Dated (rulesOf c) (momentIn phase (rulesOf c) k)
   moon-dated New =
       let days = moon-days c k in
-      dated (rulesOf c) _ (moon-units c New k) (omega (arith, days .new-from, from-start)) (omega (arith, days .new-to, to-end))
+      dated (rulesOf c) _ (moon-units c New k) (omega (arith, days .new-from, from-start c k h)) (omega (arith, days .new-to, to-end c k h))
   moon-dated Full =
       let days = moon-days c k in
-      dated (rulesOf c) _ (moon-units c Full k) (omega (arith, days .full-from, from-start)) (omega (arith, days .full-to, to-end))
-
--- the day of Senmyo's full moon has a day number
-pub record HasDayNumber (d : ℕ) : Type 0 where
-  pub from : senmyo .dayZero ≤ d
-  pub to : d < senmyo .dayZero + 2 ^ 22
-
-pub full-numbered : (k : ℕ) → Covering senmyo k → HasDayNumber (wholeDays (fullMoonFen k))
-unfolding rulesOf
-full-numbered k h =
-    let t = moon-dated Senmyo k h Full in
-    record { from = t .after-zero; to = omega (arith, t .after-zero, t .datable .to) }
+      dated (rulesOf c) _ (moon-units c Full k) (omega (arith, days .full-from, from-start c k h)) (omega (arith, days .full-to, to-end c k h))
 
 -- ---- the numerator of an instant, over whole numbers
 

@@ -1,4 +1,3 @@
-pub mod Eclipses
 pub mod Instants
 pub mod Answers
 pub mod Room

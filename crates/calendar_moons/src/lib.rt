@@ -1,30 +1,11 @@
 ghost use mathlib.Core.Path.{_≡_};
-ghost use Rattle.months_rules.specs.Rules.{senmyo, rulesOf};
-ghost use Rattle.months.specs.Room.{Covering};
-ghost use Rattle.calendar_moons.specs.Eclipses.{fullMoonAt, eclipseOf};
+ghost use Rattle.months_rules.specs.Rules.{rulesOf};
 ghost use Rattle.calendar_moons.specs.Instants.{instantIn, newMoonOf, fullMoonOf, moonsOf};
-ghost use Rattle.calendar_moons.specs.Answers.{eclipseMeans, instantMeans, moonsMeans};
+ghost use Rattle.calendar_moons.specs.Answers.{instantMeans, moonsMeans};
 ghost use Rattle.calendar_moons.specs.Room.{momentIn, phaseOf, Dated};
 use calendar_month::MoonAsked;
 use months_rules::Calendar;
 use months_rules::Moment;
-use senmyo_node::Grade;
-use senmyo_node::Side;
-use units::Fen;
-
-// The full moon of a month: its day number, the fen of that day, and where it stands from the node.
-pub struct FullMoon {
-    pub day: u32,
-    pub fen: Fen,
-    pub side: Side,
-    pub distance: Fen,
-}
-
-// The full moon and how far it is eclipsed, or the refusal.
-pub enum EclipseAnswer {
-    FullMoon(FullMoon, Grade),
-    Refused(u8),
-}
 
 // A Julian date, or the refusal.
 pub enum Instant {
@@ -47,39 +28,6 @@ pub enum MoonsAnswer {
 enum Phase {
     New,
     Full,
-}
-
-fn full_moon_at(month: u32) -> FullMoon
-    requires { ⌜ Covering senmyo month ⌝ }
-    ensures { λ r. ⌜ r ≡ fullMoonAt month ⌝ }
-{
-    let sky = senmyo::full_moon_sky(month);
-    let moment = units::byo_to_fen(sky.moment);
-    let node = senmyo_node::node_of(sky.node);
-    let side = node.side;
-    let distance = node.distance;
-    FullMoon {
-        day: (units::whole_days(moment)
-            - months_rules::numbers_of(Calendar::Senmyo).day_zero) as u32,
-        fen: units::fen_of_day(moment),
-        side,
-        distance,
-    }
-}
-
-// The lunar eclipse of a month. Only Senmyo has them.
-pub fn eclipse_of(calendar: u64, year: u64, month: u64, leap: bool) -> EclipseAnswer
-    ensures { λ r. ⌜ eclipseMeans r ≡ eclipseOf calendar year month leap ⌝ }
-{
-    if calendar == 2 {
-        return EclipseAnswer::Refused(13);
-    }
-    let asked = calendar_month::asked_moon(calendar, year, month, leap);
-    let MoonAsked::Found(_, found) = asked else {
-        return EclipseAnswer::Refused(calendar_month::moon_refusal(asked));
-    };
-    let moon = full_moon_at(found);
-    EclipseAnswer::FullMoon(moon, senmyo_node::grade_of(moon.distance))
 }
 
 // The Julian date of a moment.

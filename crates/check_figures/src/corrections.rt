@@ -94,3 +94,22 @@ pub fn print_rows() {
         ],
     );
 }
+
+fn change_at(second: u64) -> i64 {
+    senmyo_moon::change_of(AnomalySecond(second))
+}
+
+// 7465 fen of lower row 7 fall between two anomaly seconds.
+pub fn print_changes() {
+    signs::print_signed_line(
+        b"Moon's change in a day, upper row 7 just before and at 7465 fen, row 14 at 0, then lower row 7 on both sides of 7465, row 14 at 0:",
+        &[
+            change_at(5_786_499),
+            change_at(5_786_500),
+            change_at(10_920_000),
+            change_at(17_359_409),
+            change_at(17_359_410),
+            change_at(22_492_910),
+        ],
+    );
+}

@@ -3,6 +3,7 @@
 mod corrections;
 mod days;
 mod eclipses;
+mod hours;
 mod means;
 mod program;
 mod records;
@@ -21,10 +22,12 @@ fn main() {
     means::print_genka();
     corrections::print_extents();
     corrections::print_rows();
+    corrections::print_changes();
     days::print_days();
     eclipses::print_grades();
     eclipses::print_nodes();
     eclipses::print_node_places();
+    hours::print_hours();
     records::print_record();
     records::print_lengths();
     records::print_damage();
@@ -32,5 +35,6 @@ fn main() {
     refusals::print_dates_refused();
     refusals::print_days_refused();
     refusals::print_eclipses_refused();
+    refusals::print_hours_refused();
     program::print_program();
 }

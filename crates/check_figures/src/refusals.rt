@@ -1,6 +1,7 @@
-// What days, dates and eclipses are refused with.
+// What days, dates, eclipses and hours are refused with.
 use crate::told;
 use calendar::EclipseAnswer;
+use calendar::HoursAnswer;
 
 fn day_of(calendar: u64, year: u64, month: u64, leap: bool, day: u64) -> u64 {
     told::day_or_refusal(calendar::day_of(calendar, year, month, leap, day))
@@ -56,6 +57,28 @@ pub fn print_eclipses_refused() {
             eclipse_refusal(1, 821, 0),
             eclipse_refusal(1, 1522, 13),
             eclipse_refusal(1, 1522, 2),
+        ],
+    );
+}
+
+fn hours_refusal(calendar: u64, year: u64, month: u64) -> u64 {
+    let answer = calendar::hours_of(calendar, year, month, false);
+    match answer {
+        HoursAnswer::Hours(_) => 0,
+        HoursAnswer::Refused(refusal) => refusal as u64,
+    }
+}
+
+pub fn print_hours_refused() {
+    check_print::print_filled(
+        b"hours, calendar 3, Genka, 821, 1522 month 13, month 1 and month 2: # # # # # #\n",
+        &[
+            hours_refusal(3, 0, 0),
+            hours_refusal(2, 0, 0),
+            hours_refusal(1, 821, 0),
+            hours_refusal(1, 1522, 13),
+            hours_refusal(1, 1522, 1),
+            hours_refusal(1, 1522, 2),
         ],
     );
 }

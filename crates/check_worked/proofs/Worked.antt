@@ -12,7 +12,7 @@ use Rattle.months_rules.specs.Rules.{mid, senmyo}
 use Rattle.months_rules.proofs.Calendars.{senmyo-steady}
 use Rattle.months_rules.proofs.Figures.{hasTest, month-with}
 use Rattle.calendar_month.specs.Asked.{regularMonth}
-use Rattle.calendar_moons.proofs.Figures.{eclipse-1522}
+use Rattle.calendar_eclipses.proofs.Figures.{eclipse-1522}
 use Rattle.calendar_date.proofs.Figures.{day-643}
 use Rattle.calendar_year.proofs.Figures.{months-643}
 use Rattle.check_worked.specs.Worked.{Every, twelve, Solstice, Sun, Moon, Advance, Month1413, Eclipse, Year643, eight}

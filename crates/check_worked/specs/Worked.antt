@@ -18,8 +18,8 @@ use Rattle.senmyo_node.specs.Eclipse.{partial, Graded}
 use Rattle.senmyo.specs.Phases.{newMoon, newMoonDay}
 use Rattle.months_rules.specs.Rules.{senmyo, dayNumber}
 use Rattle.calendar_month.specs.Asked.{regularMonth}
-use Rattle.calendar_moons.specs.declared.FullMoon.{FullMoon}
-use Rattle.calendar_moons.specs.Eclipses.{eclipseOf}
+use Rattle.calendar_eclipses.specs.declared.FullMoon.{FullMoon}
+use Rattle.calendar_eclipses.specs.Eclipses.{eclipseOf}
 use Rattle.calendar_date.specs.Dates.{dayOf, cycle}
 use Rattle.calendar_year.specs.declared.Year.{Year}
 use Rattle.calendar_year.specs.Years.{noMonth, yearOf}

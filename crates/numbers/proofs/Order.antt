@@ -1,12 +1,12 @@
 -- The order of signed numbers, as naturals tell it.
-use mathlib.Core.Path.{_≡_}
+use mathlib.Core.Path.{_≡_, refl}
 use Prim.Native.Nat.{ℕ, _+_, _*_, _≤_}
 use native.Mathlib.Nat.{add-mul, mul-le-mul-right}
 use native.Mathlib.Omega.{arith}
 use lib.Dec.{leb→le, le→leb}
 use lib.IntN.{ℤ, pos, negsuc, _+ℤ_, _*ℤ_}
 use lib.Signed.{_≤ℤ_, leZ-yes}
-use Rattle.numbers.specs.Sign.{minus}
+use Rattle.numbers.specs.Sign.{minus, whole}
 use Rattle.numbers.specs.Between.{Between}
 use Rattle.numbers.proofs.Difference.{Is, is-pos, is-neg, is-add, is-mul, is-parts, is-one}
 
@@ -48,3 +48,8 @@ moved-between {z} n m a b e h =
     let told : Is (pos m +ℤ z) n 0 = rw e at (is-pos n) in
     let sum = is-one told (is-add (is-pos m) (is-parts z)) in
     (omega (arith, sum, le-is (is-parts z) (is-pos b) (h .to)), omega (arith, sum, le-is (is-neg (is-pos a)) (is-parts z) (h .from)))
+
+-- nothing is cut off a number that is not below zero, where it is told by a natural
+pub whole-exact : (z : ℤ) → pos 0 ≤ℤ z → pos (whole z) ≡ z
+whole-exact (pos n) h = refl
+whole-exact (negsuc n) h = absurd (h .le)

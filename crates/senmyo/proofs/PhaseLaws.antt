@@ -5,12 +5,12 @@ use Prim.Native.Nat.{ℕ, _+_, _*_, _/_, _<_, _≤_}
 use native.Mathlib.Omega.{arith}
 use borrow.Author.Tests.{ltb-true, ltb-false, leb-true, leb-false, le-leb, lt-leb}
 use lib.Dec.{ltb, leb}
-use lib.IntN.{ℤ, pos, negsuc, _+ℤ_}
+use lib.IntN.{pos, _+ℤ_}
 use lib.Signed.{_≤ℤ_}
-use Rattle.numbers.specs.Sign.{minus, whole}
+use Rattle.numbers.specs.Sign.{minus}
 use Rattle.numbers.specs.Between.{Between}
 use Rattle.numbers.proofs.Difference.{is-pos, is-add, is-mul, is-parts}
-use Rattle.numbers.proofs.Order.{is-le, le-is, pos-le, ≤ℤ-add, ≤ℤ-mul}
+use Rattle.numbers.proofs.Order.{is-le, le-is, pos-le, ≤ℤ-add, ≤ℤ-mul, whole-exact}
 use Rattle.numbers.proofs.Size.{Small, small-between, small-mul, word, Worked, told-word}
 use Rattle.units.specs.declared.Byo.{Byo}
 use Rattle.units.specs.declared.Fen.{Fen}
@@ -78,10 +78,6 @@ new-moon-after-start k =
     is-le (is-pos 0) (is-add (is-pos (248057 * k)) both) (omega (arith, room))
 
 -- ---- moments told by naturals
-
-whole-exact : (z : ℤ) → pos 0 ≤ℤ z → pos (whole z) ≡ z
-whole-exact (pos n) h = refl
-whole-exact (negsuc n) h = absurd (h .le)
 
 -- nothing is cut off where the definitions go from a signed number to a natural
 pub full-moon-exact : (k : ℕ) → pos (fullMoonSky k .moment .0) ≡ pos (meanFullMoon k .0) +ℤ correctionToByo (corrections (meanFullMoon k))

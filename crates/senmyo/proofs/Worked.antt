@@ -5,7 +5,7 @@ use Rattle.numbers.specs.Rounding.{nearest}
 use Rattle.units.specs.Units.{fenToByo, byoToAnomalySeconds}
 use Rattle.senmyo_means.specs.Means.{meanNewMoon}
 use Rattle.senmyo_sun.specs.Sun.{solsticeRow, laterRows, placeIn, sunPlace, afterDays, onDay, sunShare, sunOf}
-use Rattle.senmyo_moon.specs.Moon.{upperRows, lowerRows, shareOf, inRow, halfOf, moonOf}
+use Rattle.senmyo_moon.specs.Moon.{upperRows, lowerRows, shareOf, inRow, halfOf, inTable, moonOf}
 use Rattle.senmyo.specs.Phases.{corrections, newMoon, advancedDay, newMoonDay}
 
 -- both corrections at mean new moon k
@@ -14,7 +14,7 @@ unfolding sunOf sunShare afterDays onDay sunPlace placeIn solsticeRow laterRows 
 sunAt k = sunOf (fenToByo (meanNewMoon k))
 
 unfoldable pub moonAt : ℕ → ℤ
-unfolding moonOf halfOf inRow shareOf upperRows lowerRows nearest
+unfolding moonOf inTable halfOf inRow shareOf upperRows lowerRows nearest
 moonAt k = moonOf (byoToAnomalySeconds (fenToByo (meanNewMoon k)))
 
 -- the day of true new moon k

@@ -14,6 +14,7 @@ use Rattle.numbers.specs.Sign.{plus, minus}
 use Rattle.numbers.specs.Rounding.{nearest}
 use Rattle.numbers.specs.Between.{Between}
 use Rattle.numbers.proofs.Difference.{is-neg, is-mul, is-parts, is-equal}
+use Rattle.numbers.proofs.Size.{Small}
 use Rattle.numbers.proofs.Rounding.{ends, between-ends, nearest-pos, nearest-whole}
 use Rattle.numbers.proofs.Tests.{every, everyRow, at-each-row}
 use Rattle.units.specs.declared.AnomalySecond.{AnomalySecond}
@@ -21,7 +22,8 @@ use Rattle.senmyo_moon.specs.declared.HalfSecond.{HalfSecond}
 use Rattle.senmyo_moon.specs.declared.Stand.{Stand}
 use Rattle.senmyo_moon.specs.declared.Stretch.{Stretch}
 use Rattle.senmyo_moon.specs.declared.Stretch.the-variants.{WholeDay, GainingIn7, LosingIn7, DayOf14}
-use Rattle.senmyo_moon.specs.Moon.{Change, Gain, Loss, GainThenLoss, FirstLoss, MoonRow, row, upperRows, lowerRows, noRow, halfSeconds, dayHalfSeconds, period, halfPeriod, sumAfter, gainingIn7, losingIn7, shareOf, signed, inRow, halfOf, inPeriod, moonOf}
+use Rattle.senmyo_moon.specs.Moon.{Change, Gain, Loss, GainThenLoss, FirstLoss, MoonRow, row, upperRows, lowerRows, noRow, halfSeconds, dayHalfSeconds, period, halfPeriod, sumAfter, gainingIn7, losingIn7, shareOf, signed, inRow, halfOf, inPeriod, inTable, moonOf}
+use Rattle.senmyo_moon.specs.Daily.{dailyChange, changeInRow, changeOf}
 use Rattle.senmyo_moon.specs.Room.{rowIn, stand, standIn, lengthOf, roundedPart, roundedAt, RoundableRow, placeOf, standAt}
 
 -- half the period is 115,729.095 fen
@@ -33,14 +35,15 @@ half-period = refl
 pub day-small : (at : AnomalySecond) → placeOf at .day < 14
 day-small at = omega arith
 
-moon-in-row : (at : AnomalySecond) → moonOf at ≡ inRow (placeOf at .upper) (rowIn (placeOf at .upper) (placeOf at .day)) (placeOf at .over)
-unfolding moonOf halfOf
-moon-in-row at = by-half (ltb h (halfPeriod .0)) refl
+-- what is told at a moment is told of the row at its place
+pub at-place : (told : Bool → MoonRow → HalfSecond → ℤ) (at : AnomalySecond) → inTable told at ≡ told (placeOf at .upper) (rowIn (placeOf at .upper) (placeOf at .day)) (placeOf at .over)
+unfolding inTable halfOf
+at-place told at = by-half (ltb h (halfPeriod .0)) refl
   where
     h : ℕ
     h = inPeriod at .0
 
-    by-half : (b : Bool) → ltb h (halfPeriod .0) ≡ b → elim b as (λ _. ℤ) [ true ↦ halfOf true (inPeriod at) | false ↦ halfOf false (halfSeconds (h - halfPeriod .0)) ] ≡ halfOf b (halfSeconds (h % halfPeriod .0))
+    by-half : (b : Bool) → ltb h (halfPeriod .0) ≡ b → elim b as (λ _. ℤ) [ true ↦ halfOf told true (inPeriod at) | false ↦ halfOf told false (halfSeconds (h - halfPeriod .0)) ] ≡ halfOf told b (halfSeconds (h % halfPeriod .0))
     by-half true e = rw (mod-eq-of-lt (ltb-true h (halfPeriod .0) e))
     by-half false e =
         let into : h % halfPeriod .0 ≡ h - halfPeriod .0 = omega (arith, ltb-false h (halfPeriod .0) e) in
@@ -93,8 +96,25 @@ in-stand upper (GainThenLoss gain loss) sum t = by-side (leb (t .0) (gainingIn7 
 in-stand upper (FirstLoss loss) sum t = rounded-share upper (minus loss) sum t _
 
 pub moon-at : (at : AnomalySecond) → moonOf at ≡ roundedAt (standAt at)
-unfolding inRow
-moon-at at = let p = placeOf at in let w = rowIn (p .upper) (p .day) in moon-in-row at ∙ in-stand (p .upper) (w .change) (w .sum) (p .over)
+unfolding moonOf inRow
+moon-at at = let p = placeOf at in let w = rowIn (p .upper) (p .day) in at-place inRow at ∙ in-stand (p .upper) (w .change) (w .sum) (p .over)
+
+-- ---- .. and the change in a day: where a moment stands on the loss of row 7, from 7465 fen on, that loss
+
+change-in-stand : (upper : Bool) (change : Change) (sum : ℕ) (t : HalfSecond) → signed upper (dailyChange change t) ≡ standIn upper change sum t .row .0
+unfolding dailyChange standIn
+change-in-stand upper (Gain gain) sum t = refl
+change-in-stand upper (Loss loss) sum t = refl
+change-in-stand upper (GainThenLoss gain loss) sum t = by-side (ltb (t .0) (gainingIn7 .0)) refl
+  where
+    by-side : (b : Bool) → ltb (t .0) (gainingIn7 .0) ≡ b → signed upper (dailyChange (GainThenLoss gain loss) t) ≡ standIn upper (GainThenLoss gain loss) sum t .row .0
+    by-side true e = rw (e, dailyChange, standIn)
+    by-side false e = rw (e, dailyChange, standIn)
+change-in-stand upper (FirstLoss loss) sum t = refl
+
+pub change-at : (at : AnomalySecond) → changeOf at ≡ standAt at .row .0
+unfolding changeOf changeInRow
+change-at at = let p = placeOf at in let w = rowIn (p .upper) (p .day) in at-place changeInRow at ∙ change-in-stand (p .upper) (w .change) (w .sum) (p .over)
 
 -- ---- the numbers of a stretch are small, and what they give lies from −3195 to 3225: it runs along a line whose ends are tested
 
@@ -163,6 +183,9 @@ roundable at =
     let row-small = leb→le (natAbs (s .row .0) + natAbs (s .row .1)) 5000 (both at .0) in
     search needs
 
+pub change-small : (at : AnomalySecond) → Small (changeOf at) 5000
+change-small at = rw (change-at at) (record { size = omega (arith, roundable at .row-small) })
+
 pub moon-bounds : (at : AnomalySecond) → Between (minus 3195) (moonOf at) (plus 3225)
 moon-bounds at =
     let s = standAt at in
@@ -171,9 +194,9 @@ moon-bounds at =
 
 -- on the first day of the count it is not below zero
 pub moon-first-day : (at : AnomalySecond) → at .0 * 2 < dayHalfSeconds .0 → pos 0 ≤ℤ moonOf at
-unfolding inRow shareOf upperRows
+unfolding moonOf inRow shareOf upperRows
 moon-first-day at h =
     let same : at .0 % period .0 ≡ at .0 = mod-eq-of-lt (omega arith) in
     let upper = lt-ltb (at .0 * 2) (halfPeriod .0) (omega arith) in
     let into : at .0 * 2 % halfPeriod .0 ≡ at .0 * 2 = mod-eq-of-lt (omega arith) in
-    rw (moon-in-row at, same, upper, into, div-eq-of-lt h, mod-eq-of-lt h) (nearest-pos _ _)
+    rw (at-place inRow at, same, upper, into, div-eq-of-lt h, mod-eq-of-lt h) (nearest-pos _ _)

@@ -1,2 +1,3 @@
 pub mod Moon
+pub mod Daily
 pub mod Room

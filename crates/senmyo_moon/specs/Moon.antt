@@ -138,17 +138,20 @@ inRow upper w t =
     let share : Fraction = shareOf (w .change) (w .sum) t in
     nearest (signed upper (share .numerator)) (share .divisor)
 
--- d whole days and t over into a half: row d + 1
-unfoldable pub halfOf : Bool → HalfSecond → ℤ
-halfOf upper h = inRow upper (getD (rows upper) (h .0 / dayHalfSeconds .0) noRow) (halfSeconds (h .0 % dayHalfSeconds .0))
+-- what is told of a row and of t into its day: with d whole days and t over into a half, of row d + 1
+unfoldable pub halfOf : (Bool → MoonRow → HalfSecond → ℤ) → Bool → HalfSecond → ℤ
+halfOf told upper h = told upper (getD (rows upper) (h .0 / dayHalfSeconds .0) noRow) (halfSeconds (h .0 % dayHalfSeconds .0))
 
 -- a moment modulo the period
 abbrev pub inPeriod : AnomalySecond → HalfSecond
 inPeriod at = secondsToHalfSeconds (anomalySeconds (at .0 % period .0))
 
--- the Moon's correction at a moment counted from the start of the count, in fen: the first half of the period by the upper rows,
--- the second, less that half, by the lower
-unfoldable pub moonOf : AnomalySecond → ℤ
-moonOf at =
+-- .. at a moment counted from the start of the count: the first half of the period by the upper rows, the second, less that half, by the lower
+unfoldable pub inTable : (Bool → MoonRow → HalfSecond → ℤ) → AnomalySecond → ℤ
+inTable told at =
     let h : HalfSecond = inPeriod at in
-    elim (ltb (h .0) (halfPeriod .0)) [ true ↦ halfOf true h | false ↦ halfOf false (halfSeconds (h .0 - halfPeriod .0)) ]
+    elim (ltb (h .0) (halfPeriod .0)) [ true ↦ halfOf told true h | false ↦ halfOf told false (halfSeconds (h .0 - halfPeriod .0)) ]
+
+-- the Moon's correction at a moment, in fen
+unfoldable pub moonOf : AnomalySecond → ℤ
+moonOf at = inTable inRow at

@@ -3,6 +3,7 @@ use units::FEN_IN_DAY;
 ghost use mathlib.Core.Path.{_≡_};
 ghost use Prim.Native.Nat.{_*_, _<_, _^_};
 ghost use Rattle.senmyo_moon.specs.Moon.{secondsToHalfSeconds, gainingIn7, moonOf};
+ghost use Rattle.senmyo_moon.specs.Daily.{changeOf};
 ghost use Rattle.senmyo_moon.specs.Room.{standOn, firstRow, firstRowAt, lengthOf, roundedPart, roundedAt, placeOf, standAt, RoundableRow};
 
 // Half an anomaly second, 1/200 fen: the half period is not whole in anomaly seconds.
@@ -188,4 +189,12 @@ pub fn moon_of(at: AnomalySecond) -> i64
     ensures { λ r. ⌜ r ≡ moonOf at ⌝ }
 {
     rounded_at(stand_at(at))
+}
+
+// How the signed correction changes in a day at such a moment, in fen.
+pub fn change_of(at: AnomalySecond) -> i64
+    ensures { λ r. ⌜ r ≡ changeOf at ⌝ }
+{
+    let row = stand_at(at).row;
+    row.0
 }

@@ -7,7 +7,8 @@ use native.Mathlib.Omega.{arith}
 use lib.ListN.{replicate}
 use Rattle.answers.specs.Answer.{given, refused, then}
 use Rattle.answers.specs.Conditions.{asking}
-use Rattle.calendar_moons.proofs.Figures.{eclipse-1522}
+use Rattle.calendar_eclipses.proofs.Figures.{eclipse-1522}
+use Rattle.calendar_hours.proofs.Figures.{hours-1522}
 use Rattle.calendar_date.specs.Dates.{dateNumber}
 use Rattle.calendar_date.proofs.OneDate.{date-of-day-of}
 use Rattle.calendar_date.proofs.Figures.{day-643, leap-643}
@@ -16,9 +17,9 @@ use Rattle.record_fields.specs.Tagged.{numbersOf}
 use Rattle.record_fields.specs.Fields.{layout}
 use Rattle.record_fields.proofs.Figures.{printed-1522}
 use Rattle.record.proofs.Figures.{read-1522}
-use Rattle.sieveflicker_numbers.specs.Numbers.{numberIn, placesNumbers, yearNumbers, eclipseNumbers}
-use Rattle.sieveflicker.specs.Exported.{dayNumberOf, dateNumberOf, yearWritten, eclipseWritten, fieldsWritten}
-use Rattle.sieveflicker.proofs.Written.{year-follows, eclipse-follows, fields-follow}
+use Rattle.sieveflicker_numbers.specs.Numbers.{numberIn, placesNumbers, yearNumbers, eclipseNumbers, hoursNumbers}
+use Rattle.sieveflicker.specs.Exported.{dayNumberOf, dateNumberOf, yearWritten, eclipseWritten, hoursWritten, fieldsWritten}
+use Rattle.sieveflicker.proofs.Written.{year-follows, eclipse-follows, hours-follow, fields-follow}
 
 -- 643 month 5 day 16
 day : dayNumberOf 2 643 5 0 16 ≡ 1956072
@@ -55,6 +56,11 @@ year = year-follows 1 1522 (replicate 56 7) .room (omega arith) ∙ ap (λ a. th
 -- 1522 month 2
 eclipse : eclipseWritten 1 1522 2 0 (replicate 8 7) ≡ given (2277039 ∷ 6215 ∷ 1 ∷ 2241 ∷ 2 ∷ 14 ∷ 412 ∷ 1 ∷ [])
 eclipse = eclipse-follows 1 1522 2 0 (replicate 8 7) .room (omega arith) ∙ ap (λ a. then a (λ e. given (eclipseNumbers e ++ []))) eclipse-1522
+
+-- .. and its hours, into memory for 13 numbers, of which one stays as it was
+hours : hoursWritten 1 1522 2 0 (replicate 13 7) ≡
+    given (1696 ∷ 20 ∷ 16 ∷ 2277039 ∷ 5367 ∷ 63 ∷ 2277039 ∷ 6215 ∷ 73 ∷ 2277039 ∷ 7063 ∷ 84 ∷ 7 ∷ [])
+hours = hours-follow 1 1522 2 0 (replicate 13 7) .room (omega arith) ∙ ap (λ a. then a (λ h. given (hoursNumbers h ++ 7 ∷ []))) hours-1522
 
 -- the record as 01 prints it
 fields : fieldsWritten printed-1522 (replicate 5 7) ≡ given (1 ∷ 1522 ∷ 2276996 ∷ 0 ∷ 3402 ∷ [])

@@ -5,6 +5,7 @@ use Rattle.sieveflicker.proofs.sf_day.Reads as sf-day
 use Rattle.sieveflicker.proofs.sf_date.Reads as sf-date
 use Rattle.sieveflicker.proofs.sf_year.Reads as sf-year
 use Rattle.sieveflicker.proofs.sf_eclipse.Reads as sf-eclipse
+use Rattle.sieveflicker.proofs.sf_hours.Reads as sf-hours
 use Rattle.sieveflicker.proofs.sf_moons.Reads as sf-moons
 use Rattle.sieveflicker.proofs.sf_write_record.Reads as sf-write-record
 use Rattle.sieveflicker.proofs.sf_read_record.Reads as sf-read-record
@@ -26,6 +27,12 @@ one-sf-eclipse _ _ _ _ _ _ p q = one (p .0) (q .0)
 
 pub one-eclipse-left : OneContent sf-eclipse.Learnt (λ _ lent. lent .1 .1 .1 .1 .0 .now)
 one-eclipse-left _ _ _ _ _ _ p q = one (p .1) (q .1)
+
+pub one-sf-hours : OneResult sf-hours.Learnt
+one-sf-hours _ _ _ _ _ _ p q = one (p .0) (q .0)
+
+pub one-hours-left : OneContent sf-hours.Learnt (λ _ lent. lent .1 .1 .1 .1 .0 .now)
+one-hours-left _ _ _ _ _ _ p q = one (p .1) (q .1)
 
 pub one-sf-moons : OneResult sf-moons.Learnt
 one-sf-moons _ _ _ _ _ _ p q = one (p .0) (q .0)

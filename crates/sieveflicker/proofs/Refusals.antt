@@ -13,14 +13,15 @@ use Rattle.answers.specs.Conditions.{AllHold, FirstFails, Exactly}
 use Rattle.answers.proofs.Conditions.{given-exactly, refused-exactly}
 use Rattle.calendar_range.specs.Range.{isCalendar, rulesFor, isCovered}
 use Rattle.calendar_month.specs.Asked.{monthNamed, hasMonth}
-use Rattle.calendar_moons.specs.Eclipses.{eclipseIn, isSenmyo}
+use Rattle.calendar_eclipses.specs.Eclipses.{eclipseIn, isSenmyo}
 use Rattle.calendar_moons.specs.Instants.{moonsIn}
+use Rattle.calendar_hours.specs.Hours.{hoursIn, hasEclipse}
 use Rattle.calendar_year.specs.Years.{yearIn}
 use Rattle.record_fields.specs.Tagged.{numbersOf, numbersAt, tagsAt, same}
 use Rattle.record_fields.specs.Fields.{layout, size}
 use Rattle.record.specs.Record.{fieldsFor}
-use Rattle.sieveflicker_numbers.specs.Numbers.{asksLeap, yearNumbers, eclipseNumbers, moonsNumbers}
-use Rattle.sieveflicker.specs.Exported.{hasRoom, yearWrittenConditions, yearWritten, eclipseWrittenConditions, eclipseWritten, moonsWrittenConditions, moonsWritten, fieldsWrittenConditions, fieldsWritten}
+use Rattle.sieveflicker_numbers.specs.Numbers.{asksLeap, yearNumbers, eclipseNumbers, hoursNumbers, moonsNumbers}
+use Rattle.sieveflicker.specs.Exported.{hasRoom, yearWrittenConditions, yearWritten, eclipseWrittenConditions, eclipseWritten, hoursWrittenConditions, hoursWritten, moonsWrittenConditions, moonsWritten, fieldsWrittenConditions, fieldsWritten}
 
 -- ---- a year
 
@@ -63,6 +64,39 @@ module _ (c y m leap : ℕ) (out : List ℕ) where
 
   pub eclipse-refused-3 : Exactly (eclipseWritten c y m leap out ≡ refused 3) ((hasRoom 8 out ≡ true) × ((isCalendar c ≡ true) × ((isSenmyo c ≡ true) × ((isCovered (rulesFor c) y ≡ true) × (hasMonth (rulesFor c) y m (asksLeap leap) ≡ false)))))
   eclipse-refused-3 = eclipse-refused 3
+
+-- ---- the hours of an eclipse
+
+module _ (c y m leap : ℕ) (out : List ℕ) where
+  abbrev asked-month : ℕ
+  asked-month = monthNamed (rulesFor c) y m (asksLeap leap)
+
+  abbrev has-asked : Bool
+  has-asked = hasMonth (rulesFor c) y m (asksLeap leap)
+
+  pub hours-written : (l : List ℕ) → Exactly (hoursWritten c y m leap out ≡ given l) (AllHold (hoursWrittenConditions c y m leap out) × (hoursNumbers (hoursIn asked-month) ++ drop 12 out ≡ l))
+  hours-written l = given-exactly _ _ l
+
+  pub hours-refused : (n : ℕ) → Exactly (hoursWritten c y m leap out ≡ refused n) (FirstFails (hoursWrittenConditions c y m leap out) n)
+  hours-refused n = refused-exactly _ _ n
+
+  pub hours-refused-6 : Exactly (hoursWritten c y m leap out ≡ refused 6) (hasRoom 12 out ≡ false)
+  hours-refused-6 = hours-refused 6
+
+  pub hours-refused-1 : Exactly (hoursWritten c y m leap out ≡ refused 1) ((hasRoom 12 out ≡ true) × (isCalendar c ≡ false))
+  hours-refused-1 = hours-refused 1
+
+  pub hours-refused-13 : Exactly (hoursWritten c y m leap out ≡ refused 13) ((hasRoom 12 out ≡ true) × ((isCalendar c ≡ true) × (isSenmyo c ≡ false)))
+  hours-refused-13 = hours-refused 13
+
+  pub hours-refused-2 : Exactly (hoursWritten c y m leap out ≡ refused 2) ((hasRoom 12 out ≡ true) × ((isCalendar c ≡ true) × ((isSenmyo c ≡ true) × (isCovered (rulesFor c) y ≡ false))))
+  hours-refused-2 = hours-refused 2
+
+  pub hours-refused-3 : Exactly (hoursWritten c y m leap out ≡ refused 3) ((hasRoom 12 out ≡ true) × ((isCalendar c ≡ true) × ((isSenmyo c ≡ true) × ((isCovered (rulesFor c) y ≡ true) × (has-asked ≡ false)))))
+  hours-refused-3 = hours-refused 3
+
+  pub hours-refused-14 : Exactly (hoursWritten c y m leap out ≡ refused 14) ((hasRoom 12 out ≡ true) × ((isCalendar c ≡ true) × ((isSenmyo c ≡ true) × ((isCovered (rulesFor c) y ≡ true) × ((has-asked ≡ true) × (hasEclipse asked-month ≡ false))))))
+  hours-refused-14 = hours-refused 14
 
 -- ---- both moons
 

@@ -6,9 +6,9 @@ use native.Mathlib.Omega.{arith}
 use lib.ListN.{length}
 use Rattle.answers.specs.Answer.{given}
 use Rattle.senmyo_node.specs.Eclipse.{Graded}
-use Rattle.calendar_moons.specs.declared.FullMoon.{FullMoon}
-use Rattle.calendar_moons.specs.Eclipses.{eclipseOf}
-use Rattle.calendar_moons.proofs.Refusals.{moon-bounded}
+use Rattle.calendar_eclipses.specs.declared.FullMoon.{FullMoon}
+use Rattle.calendar_eclipses.specs.Eclipses.{eclipseOf}
+use Rattle.calendar_eclipses.proofs.Refusals.{moon-bounded}
 use Rattle.calendar_year.specs.declared.Year.{Year}
 use Rattle.calendar_year.specs.Years.{yearOf}
 use Rattle.calendar_year.proofs.Refusals.{thirteen-places}

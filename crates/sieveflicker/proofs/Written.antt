@@ -10,15 +10,16 @@ use lib.Seq.{sets}
 use Rattle.answers.specs.Answer.{Answer, given, refused, then, refusalIn, leftIn}
 use Rattle.answers.specs.Conditions.{asking}
 use Rattle.answers.proofs.Conditions.{then-given}
-use Rattle.calendar_moons.specs.Eclipses.{eclipseIn, eclipseOf}
+use Rattle.calendar_eclipses.specs.Eclipses.{eclipseIn, eclipseOf}
 use Rattle.calendar_moons.specs.Instants.{ofMonth, moonsOf}
+use Rattle.calendar_hours.specs.Hours.{hoursIn, hoursOf}
 use Rattle.calendar_year.specs.Years.{yearOf}
 use Rattle.record_fields.specs.Tagged.{numbersOf}
 use Rattle.record_fields.specs.Fields.{layout}
 use Rattle.record.specs.Record.{readOf}
-use Rattle.sieveflicker_numbers.specs.Numbers.{asksLeap, yearNumbers, eclipseNumbers, moonsNumbers}
+use Rattle.sieveflicker_numbers.specs.Numbers.{asksLeap, yearNumbers, eclipseNumbers, hoursNumbers, moonsNumbers}
 use Rattle.sieveflicker_numbers.proofs.Memory.{sets-front}
-use Rattle.sieveflicker.specs.Exported.{hasRoom, yearWritten, eclipseWritten, moonsWritten, fieldsWritten}
+use Rattle.sieveflicker.specs.Exported.{hasRoom, yearWritten, eclipseWritten, hoursWritten, moonsWritten, fieldsWritten}
 
 -- refused in memory that is too short, and else what is answered, as so many numbers before the rest of the memory
 pub record Follows {A B : Type 0} (size : ℕ) (numbers : A → List B) (answer : Answer A) (out : List B) (written : Answer (List B)) : Type 0 where
@@ -37,6 +38,10 @@ year-follows c y out = follows 55 yearNumbers _ _ out
 pub eclipse-follows : (c y m leap : ℕ) (out : List ℕ) → Follows 8 eclipseNumbers (eclipseOf c y m (asksLeap leap)) out (eclipseWritten c y m leap out)
 unfolding eclipseOf
 eclipse-follows c y m leap out = follows 8 eclipseNumbers _ (eclipseIn _) out
+
+pub hours-follow : (c y m leap : ℕ) (out : List ℕ) → Follows 12 hoursNumbers (hoursOf c y m (asksLeap leap)) out (hoursWritten c y m leap out)
+unfolding hoursOf
+hours-follow c y m leap out = follows 12 hoursNumbers _ (hoursIn _) out
 
 pub moons-follow : (c y m leap : ℕ) (out : List Float) → Follows 2 moonsNumbers (moonsOf c y m (asksLeap leap)) out (moonsWritten c y m leap out)
 unfolding moonsOf ofMonth

@@ -10,14 +10,15 @@ use Rattle.answers.specs.Answer.{Answer, given, then}
 use Rattle.answers.specs.Conditions.{asking}
 use Rattle.calendar_range.specs.Range.{rulesFor, yearConditions}
 use Rattle.calendar_month.specs.Asked.{monthNamed, monthConditions}
-use Rattle.calendar_moons.specs.Eclipses.{eclipseIn, eclipseConditions}
+use Rattle.calendar_eclipses.specs.Eclipses.{eclipseIn, eclipseConditions}
 use Rattle.calendar_moons.specs.Instants.{moonsIn}
+use Rattle.calendar_hours.specs.Hours.{hoursIn, hoursConditions}
 use Rattle.calendar_date.specs.Dates.{dayOf, dateOf, dateNumber}
 use Rattle.calendar_year.specs.Years.{yearIn}
 use Rattle.record_fields.specs.Tagged.{numbersOf, numbersAt}
 use Rattle.record_fields.specs.Fields.{layout}
 use Rattle.record.specs.Record.{fieldsFor, readConditions}
-use Rattle.sieveflicker_numbers.specs.Numbers.{asksLeap, numberIn, yearNumbers, eclipseNumbers, moonsNumbers}
+use Rattle.sieveflicker_numbers.specs.Numbers.{asksLeap, numberIn, yearNumbers, eclipseNumbers, hoursNumbers, moonsNumbers}
 
 -- the day number
 abbrev pub dayNumberOf : ℕ → ℕ → ℕ → ℕ → ℕ → ℕ
@@ -48,6 +49,15 @@ eclipseWrittenConditions c y m leap out =
 
 abbrev pub eclipseWritten : ℕ → ℕ → ℕ → ℕ → List ℕ → Answer (List ℕ)
 eclipseWritten c y m leap out = asking (eclipseWrittenConditions c y m leap out) (eclipseNumbers (eclipseIn (monthNamed (rulesFor c) y m (asksLeap leap))) ++ drop 8 out)
+
+-- 12 numbers
+abbrev pub hoursWrittenConditions : ℕ → ℕ → ℕ → ℕ → List ℕ → List (Bool × ℕ)
+hoursWrittenConditions c y m leap out =
+    (hasRoom 12 out, 6) ∷
+    hoursConditions c y m (asksLeap leap)
+
+abbrev pub hoursWritten : ℕ → ℕ → ℕ → ℕ → List ℕ → Answer (List ℕ)
+hoursWritten c y m leap out = asking (hoursWrittenConditions c y m leap out) (hoursNumbers (hoursIn (monthNamed (rulesFor c) y m (asksLeap leap))) ++ drop 12 out)
 
 -- two dates
 abbrev pub moonsWrittenConditions : ℕ → ℕ → ℕ → ℕ → List Float → List (Bool × ℕ)

@@ -2,10 +2,11 @@
 ghost use mathlib.Core.Path.{_≡_};
 ghost use Rattle.answers.specs.Answer.{refusalIn, leftIn};
 ghost use Rattle.record.specs.Record.{writeOf};
-ghost use Rattle.sieveflicker.specs.Exported.{dayNumberOf, dateNumberOf, yearWritten, eclipseWritten, moonsWritten, fieldsWritten};
+ghost use Rattle.sieveflicker.specs.Exported.{dayNumberOf, dateNumberOf, yearWritten, eclipseWritten, hoursWritten, moonsWritten, fieldsWritten};
 use calendar::DateAnswer;
 use calendar::DayAnswer;
 use calendar::EclipseAnswer;
+use calendar::HoursAnswer;
 use calendar::MoonsAnswer;
 
 // The day number of a date, or the refusal's number.
@@ -63,6 +64,24 @@ pub extern "C" fn sf_eclipse(calendar: u64, year: u64, month: u64, leap: u64, ou
             0
         }
         EclipseAnswer::Refused(number) => number,
+    }
+}
+
+// Writes the 12 numbers of the hours of a month's eclipse. Answers the refusal's number, or 0.
+#[no_mangle]
+pub extern "C" fn sf_hours(calendar: u64, year: u64, month: u64, leap: u64, out: &mut [u32]) -> u8
+    ensures refusal { λ r. ⌜ r ≡ refusalIn (hoursWritten calendar year month leap (now (out .entry))) ⌝ }
+    ensures left { λ _. ⌜ now (out .exit) ≡ leftIn (now (out .entry)) (hoursWritten calendar year month leap (now (out .entry))) ⌝ }
+{
+    if out.len() < 12 {
+        return 6;
+    }
+    match calendar::hours_of(calendar, year, month, leap != 0) {
+        HoursAnswer::Hours(hours) => {
+            sieveflicker_numbers::put_hours(out, hours);
+            0
+        }
+        HoursAnswer::Refused(number) => number,
     }
 }
 

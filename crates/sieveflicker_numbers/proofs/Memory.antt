@@ -11,13 +11,15 @@ use Rattle.calendar_year.specs.Years.{noMonth}
 use Rattle.sieveflicker_numbers.specs.Numbers.{monthNumbers, placesNumbers}
 
 module _ {A : Type 0} where
-  -- four stores at places that are counted from the first
-  pub four-stores : (out : List A) (place : ℕ) (a b c d : A) → set (set (set (set out place a) (place + 1) b) (place + 2) c) (place + 3) d ≡ sets out place (a ∷ b ∷ c ∷ d ∷ [])
-  four-stores out place a b c d =
+  -- three stores at places that are counted from the first, and one more
+  pub three-stores : (out : List A) (place : ℕ) (a b c : A) → set (set (set out place a) (place + 1) b) (place + 2) c ≡ sets out place (a ∷ b ∷ c ∷ [])
+  three-stores out place a b c =
       let one : place + 1 ≡ suc place = omega arith in
       let two : place + 2 ≡ suc (suc place) = omega arith in
-      let three : place + 3 ≡ suc (suc (suc place)) = omega arith in
-      rw (one, two, three)
+      rw (one, two)
+
+  pub fourth-store : (out : List A) (place : ℕ) (a b c d : A) → set (sets out place (a ∷ b ∷ c ∷ [])) (place + 3) d ≡ sets out place (a ∷ b ∷ c ∷ d ∷ [])
+  fourth-store out place a b c d = ap (λ n. set (sets out place (a ∷ b ∷ c ∷ [])) n d) (omega arith)
 
   -- numbers stored behind numbers are stored together
   pub sets-append : (out : List A) (place : ℕ) (xs ys : List A) → sets (sets out place xs) (place + length xs) ys ≡ sets out place (xs ++ ys)

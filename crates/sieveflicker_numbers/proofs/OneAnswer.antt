@@ -4,6 +4,7 @@ use Rattle.numbers.proofs.OneResult.{one}
 use Rattle.sieveflicker_numbers.proofs.put_year.Reads as put-year
 use Rattle.sieveflicker_numbers.proofs.put_moon.Reads as put-moon
 use Rattle.sieveflicker_numbers.proofs.put_grade.Reads as put-grade
+use Rattle.sieveflicker_numbers.proofs.put_hours.Reads as put-hours
 use Rattle.sieveflicker_numbers.proofs.put_moons.Reads as put-moons
 use Rattle.sieveflicker_numbers.proofs.put_fields.Reads as put-fields
 
@@ -15,6 +16,9 @@ one-put-moon-left _ _ _ _ _ _ = one
 
 pub one-put-grade-left : OneContent put-grade.Learnt (λ _ lent. lent .0 .now)
 one-put-grade-left _ _ _ _ _ _ = one
+
+pub one-put-hours-left : OneContent put-hours.Learnt (λ _ lent. lent .0 .now)
+one-put-hours-left _ _ _ _ _ _ = one
 
 pub one-put-moons-left : OneContent put-moons.Learnt (λ _ lent. lent .0 .now)
 one-put-moons-left _ _ _ _ _ _ = one

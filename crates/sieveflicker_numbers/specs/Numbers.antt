@@ -8,8 +8,10 @@ use Rattle.answers.specs.Answer.{Answer, given, refused}
 use Rattle.senmyo_node.specs.declared.Side.{Side}
 use Rattle.senmyo_node.specs.declared.Side.the-variants.{Yang, Yin}
 use Rattle.senmyo_node.specs.Eclipse.{Kind, none, total, partial, Graded}
-use Rattle.calendar_moons.specs.declared.FullMoon.{FullMoon}
+use Rattle.calendar_eclipses.specs.declared.FullMoon.{FullMoon}
 use Rattle.calendar_moons.specs.declared.Moons.{Moons}
+use Rattle.calendar_hours.specs.declared.Hour.{Hour}
+use Rattle.calendar_hours.specs.declared.Hours.{Hours}
 use Rattle.calendar_year.specs.declared.Month.{Month}
 use Rattle.calendar_year.specs.declared.Year.{Year}
 
@@ -64,6 +66,18 @@ gradeNumbers g = kindNumber (g .kind) ∷ g .parts ∷ g .remainder ∷ flag (g 
 
 abbrev pub eclipseNumbers : FullMoon × Graded → List ℕ
 eclipseNumbers e = moonNumbers (e .0) ++ gradeNumbers (e .1)
+
+-- day, fen, ke
+abbrev pub hourNumbers : Hour → List ℕ
+hourNumbers t = t .day ∷ t .fen .0 ∷ t .ke .0 ∷ []
+
+-- length, its ke and fen over; start, middle, end
+abbrev pub hoursNumbers : Hours → List ℕ
+hoursNumbers h =
+    (h .length .0 ∷ h .ke .0 ∷ h .over .0 ∷ []) ++
+    hourNumbers (h .start) ++
+    hourNumbers (h .middle) ++
+    hourNumbers (h .end)
 
 -- new and full
 abbrev pub moonsNumbers : Moons → List Float

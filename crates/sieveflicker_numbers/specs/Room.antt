@@ -1,6 +1,6 @@
 -- What inner functions ask of their callers, which have made sure of it. No rule of the calendar.
 use Prim.Native.Nat.{_<_, _^_}
-use Rattle.calendar_moons.specs.declared.FullMoon.{FullMoon}
+use Rattle.calendar_eclipses.specs.declared.FullMoon.{FullMoon}
 
 -- a full moon whose fen and distance fit their places
 pub record FitsPlaces (m : FullMoon) : Type 0 where

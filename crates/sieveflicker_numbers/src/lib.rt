@@ -5,11 +5,14 @@ ghost use Prim.Native.Nat.{_+_, _≤_};
 ghost use lib.ListN.{length};
 ghost use lib.Seq.{sets};
 ghost use Rattle.senmyo_node.specs.Answers.{gradeMeans};
+ghost use Rattle.calendar_hours.specs.Hours.{HourSmall, HoursSmall};
 ghost use Rattle.record_fields.specs.Tagged.{numbersOf};
 ghost use Rattle.record_fields.specs.Fields.{layout};
-ghost use Rattle.sieveflicker_numbers.specs.Numbers.{monthNumbers, placesNumbers, yearNumbers, sideNumber, moonNumbers, gradeNumbers, moonsNumbers};
+ghost use Rattle.sieveflicker_numbers.specs.Numbers.{monthNumbers, placesNumbers, yearNumbers, sideNumber, moonNumbers, gradeNumbers, hourNumbers, hoursNumbers, moonsNumbers};
 ghost use Rattle.sieveflicker_numbers.specs.Room.{FitsPlaces};
-use calendar_moons::FullMoon;
+use calendar_eclipses::FullMoon;
+use calendar_hours::Hour;
+use calendar_hours::Hours;
 use calendar_moons::Moons;
 use calendar_year::Month;
 use calendar_year::Year;
@@ -17,14 +20,22 @@ use record_fields::Fields;
 use senmyo_node::Grade;
 use senmyo_node::Side;
 
+// Writes three numbers, from a place on.
+fn put_three(out: &mut [u32], place: usize, first: u32, second: u32, third: u32)
+    requires { ⌜ place + 3 ≤ length (now out) ⌝ }
+    ensures { λ _. ⌜ now (out .exit) ≡ sets (now (out .entry)) place (first ∷ second ∷ third ∷ []) ⌝ }
+{
+    out[place] = first;
+    out[place + 1] = second;
+    out[place + 2] = third;
+}
+
 // Writes four numbers, from a place on.
 fn put_four(out: &mut [u32], place: usize, first: u32, second: u32, third: u32, fourth: u32)
     requires { ⌜ place + 4 ≤ length (now out) ⌝ }
     ensures { λ _. ⌜ now (out .exit) ≡ sets (now (out .entry)) place (first ∷ second ∷ third ∷ fourth ∷ []) ⌝ }
 {
-    out[place] = first;
-    out[place + 1] = second;
-    out[place + 2] = third;
+    put_three(out, place, first, second, third);
     out[place + 3] = fourth;
 }
 
@@ -106,6 +117,31 @@ pub fn put_grade(out: &mut [u32], grade: Grade)
             share.strong as u32,
         ),
     }
+}
+
+fn put_hour(out: &mut [u32], place: usize, hour: Hour)
+    requires { ⌜ HourSmall hour ⌝ }
+    requires { ⌜ place + 3 ≤ length (now out) ⌝ }
+    ensures { λ _. ⌜ now (out .exit) ≡ sets (now (out .entry)) place (hourNumbers hour) ⌝ }
+{
+    put_three(out, place, hour.day, hour.fen.0 as u32, hour.ke.0 as u32);
+}
+
+pub fn put_hours(out: &mut [u32], hours: Hours)
+    requires { ⌜ HoursSmall hours ⌝ }
+    requires { ⌜ 12 ≤ length (now out) ⌝ }
+    ensures { λ _. ⌜ now (out .exit) ≡ sets (now (out .entry)) 0 (hoursNumbers hours) ⌝ }
+{
+    put_three(
+        out,
+        0,
+        hours.length.0 as u32,
+        hours.ke.0 as u32,
+        hours.over.0 as u32,
+    );
+    put_hour(out, 3, hours.start);
+    put_hour(out, 6, hours.middle);
+    put_hour(out, 9, hours.end);
 }
 
 pub fn put_moons(out: &mut [f64], moons: Moons)

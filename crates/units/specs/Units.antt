@@ -1,8 +1,9 @@
--- The units of Senmyo and what each is of another (01, "Units").
+-- The units of Senmyo and what each is of another (01, "Units"; for ke 02, request 2).
 use Prim.Native.Nat.{ℕ, _*_, _/_, _%_}
 use Rattle.units.specs.declared.Fen.{Fen}
 use Rattle.units.specs.declared.Byo.{Byo}
 use Rattle.units.specs.declared.AnomalySecond.{AnomalySecond}
+use Rattle.units.specs.declared.Ke.{Ke}
 
 abbrev pub fen : ℕ → Fen
 fen n = record { 0 = n }
@@ -12,6 +13,9 @@ byo n = record { 0 = n }
 
 abbrev pub anomalySeconds : ℕ → AnomalySecond
 anomalySeconds n = record { 0 = n }
+
+abbrev pub ke : ℕ → Ke
+ke n = record { 0 = n }
 
 -- a fen is 8 byo
 abbrev pub fenToByo : Fen → Byo
@@ -37,3 +41,13 @@ wholeDays f = f .0 / dayFen
 
 abbrev pub fenOfDay : Fen → Fen
 fenOfDay f = fen (f .0 % dayFen)
+
+-- a ke is 84 fen: the whole ke of a number of fen, and the fen over those
+abbrev pub keFen : ℕ
+keFen = 84
+
+abbrev pub wholeKe : Fen → Ke
+wholeKe f = ke (f .0 / keFen)
+
+abbrev pub fenOverKe : Fen → Fen
+fenOverKe f = fen (f .0 % keFen)

@@ -1,6 +1,6 @@
 ghost use mathlib.Core.Path.{_≡_};
 ghost use Prim.Native.Nat.{_*_, _<_, _^_};
-ghost use Rattle.units.specs.Units.{fenToByo, byoToFen, byoToAnomalySeconds, wholeDays, fenOfDay};
+ghost use Rattle.units.specs.Units.{fenToByo, byoToFen, byoToAnomalySeconds, wholeDays, fenOfDay, wholeKe, fenOverKe};
 
 // A day is 8,400 fen, a fen 8 byo.
 pub const FEN_IN_DAY: u64 = 8400;
@@ -8,6 +8,9 @@ pub const FEN_IN_DAY: u64 = 8400;
 pub const BYO_IN_FEN: u64 = 8;
 
 pub const BYO_IN_DAY: u64 = FEN_IN_DAY * BYO_IN_FEN;
+
+// A ke, of which a day has 100, is 84 fen.
+const FEN_IN_KE: u64 = 84;
 
 // 1/8,400 of a day.
 pub struct Fen(pub u64);
@@ -17,6 +20,9 @@ pub struct Byo(pub u64);
 
 // 1/100 fen.
 pub struct AnomalySecond(pub u64);
+
+// 1/100 of a day.
+pub struct Ke(pub u64);
 
 pub fn fen_to_byo(moment: Fen) -> Byo
     requires { ⌜ moment .0 * 8 < 2 ^ 64 ⌝ }
@@ -50,4 +56,16 @@ pub fn fen_of_day(moment: Fen) -> Fen
     ensures { λ r. ⌜ r ≡ fenOfDay moment ⌝ }
 {
     Fen(moment.0 % FEN_IN_DAY)
+}
+
+pub fn whole_ke(fen: Fen) -> Ke
+    ensures { λ r. ⌜ r ≡ wholeKe fen ⌝ }
+{
+    Ke(fen.0 / FEN_IN_KE)
+}
+
+pub fn fen_over_ke(fen: Fen) -> Fen
+    ensures { λ r. ⌜ r ≡ fenOverKe fen ⌝ }
+{
+    Fen(fen.0 % FEN_IN_KE)
 }

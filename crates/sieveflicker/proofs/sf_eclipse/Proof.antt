@@ -4,7 +4,7 @@ use native.Mathlib.Omega.{arith}
 use borrow.Author.Needs.{needs}
 use lib.Seq.{sets}
 use Rattle.senmyo_node.specs.Answers.{gradeMeans}
-use Rattle.calendar_moons.specs.Answers.{eclipseMeans}
+use Rattle.calendar_eclipses.specs.Answers.{eclipseMeans}
 use Rattle.sieveflicker_numbers.specs.Numbers.{gradeNumbers}
 use Rattle.sieveflicker.proofs.Written.{eclipse-follows, too-short, passed-on, stored}
 use Rattle.sieveflicker.proofs.Sizes.{moon-fits}

@@ -1,4 +1,4 @@
--- `calendar_moons::full_moon_at` meets its contract: what it tells is read off the sky, and the full moon of a covered month has a day number.
+-- `calendar_eclipses::full_moon_at` meets its contract: what it tells is read off the sky, and the full moon of a covered month has a day number.
 use mathlib.Core.Path.{_≡_}
 use native.Mathlib.Omega.{arith}
 use borrow.Author.Needs.{needs}
@@ -6,10 +6,10 @@ use Rattle.units.specs.Units.{wholeDays}
 use Rattle.senmyo.specs.FullMoons.{fullMoonFen}
 use Rattle.senmyo.proofs.PhaseLaws.{node-within}
 use Rattle.months_rules.specs.Rules.{rulesOf}
-use Rattle.calendar_moons.specs.Eclipses.{fullMoonAt}
-use Rattle.calendar_moons.proofs.Moments.{HasDayNumber, full-numbered}
-use Rattle.calendar_moons.proofs.full_moon_at.Statement.{statement}
-use Rattle.calendar_moons.proofs.full_moon_at.Tie as tie
+use Rattle.calendar_eclipses.specs.Eclipses.{fullMoonAt}
+use Rattle.calendar_eclipses.proofs.Numbered.{HasDayNumber, full-numbered}
+use Rattle.calendar_eclipses.proofs.full_moon_at.Statement.{statement}
+use Rattle.calendar_eclipses.proofs.full_moon_at.Tie as tie
 
 -- the whole days of the full moon
 days : (c : tie.After-whole-days) → c .whole-days .result ≡ wholeDays (fullMoonFen (c .before .before .before .before .before .args .month))
@@ -33,7 +33,7 @@ returns c =
 
 sub-t10 : tie.Need-sub-t10
 unfolding rulesOf
-sub-t10 c = rw (c .before .numbers-of .ensures, days (c .before .before)) (numbered (c .before .before) .from)
+sub-t10 c = rw (c .before .numbers-of .ensures, days (c .before .before)) (omega (arith, numbered (c .before .before) .from))
 
 cast-t11 : tie.Need-cast-t11
 unfolding rulesOf

@@ -11,7 +11,7 @@ use Rattle.senmyo.specs.FullMoons.{fullMoonFen, fullMoonNode}
 use Rattle.months_rules.specs.Rules.{senmyo, dayNumber}
 use Rattle.calendar_range.specs.Range.{rulesFor, isCovered, calendarConditions}
 use Rattle.calendar_month.specs.Asked.{monthNamed, hasMonth}
-use Rattle.calendar_moons.specs.declared.FullMoon.{FullMoon}
+use Rattle.calendar_eclipses.specs.declared.FullMoon.{FullMoon}
 
 -- the full moon of month k: its day and fen, never put back a day, and the side and distance from the node
 unfoldable pub fullMoonAt : ℕ → FullMoon
@@ -31,7 +31,7 @@ eclipseIn k = (fullMoonAt k, gradeOf (fullMoonAt k .distance))
 abbrev pub isSenmyo : ℕ → Bool
 isSenmyo c = eqb c 1
 
--- the eclipse of a month that is named
+-- what is asked of a month whose eclipse is wanted
 abbrev pub eclipseConditions : ℕ → ℕ → ℕ → Bool → List (Bool × ℕ)
 eclipseConditions c y m leap =
     calendarConditions c ++
@@ -39,5 +39,10 @@ eclipseConditions c y m leap =
     (isCovered (rulesFor c) y, 2) ∷
     (hasMonth (rulesFor c) y m leap, 3) ∷ []
 
+-- the month, by the number of its new moon
+unfoldable pub eclipseAsked : ℕ → ℕ → ℕ → Bool → Answer ℕ
+eclipseAsked c y m leap = asking (eclipseConditions c y m leap) (monthNamed (rulesFor c) y m leap)
+
+-- .. its full moon, and how far that is eclipsed
 unfoldable pub eclipseOf : ℕ → ℕ → ℕ → Bool → Answer (FullMoon × Graded)
 eclipseOf c y m leap = asking (eclipseConditions c y m leap) (eclipseIn (monthNamed (rulesFor c) y m leap))

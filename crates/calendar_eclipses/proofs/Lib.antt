@@ -1,0 +1,5 @@
+pub mod Steps
+pub mod Numbered
+pub mod Refusals
+pub mod OneAnswer
+pub mod Figures

@@ -1,0 +1,2 @@
+pub mod Eclipses
+pub mod Answers

@@ -1,0 +1,5 @@
+pub mod Steps
+pub mod Refusals
+pub mod HoursLaws
+pub mod OneAnswer
+pub mod Figures

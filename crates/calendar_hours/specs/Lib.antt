@@ -1,0 +1,3 @@
+pub mod Hours
+pub mod Answers
+pub mod Room

@@ -1,0 +1,3 @@
+pub mod HourLaws
+pub mod OneAnswer
+pub mod Figures
