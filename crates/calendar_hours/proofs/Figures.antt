@@ -16,10 +16,12 @@ use Rattle.senmyo_hours.specs.Hours.{lengthOf, timesFrom, timesAt}
 use Rattle.months_rules.specs.Rules.{senmyo, rulesOf}
 use Rattle.months_rules.proofs.Calendars.{senmyo-steady}
 use Rattle.months_rules.proofs.Figures.{month-with}
+use Rattle.calendar_hours.specs.declared.Hours.{Hours}
 use Rattle.calendar_hours.specs.Hours.{hoursIn, hasEclipse, hoursOf}
 
 -- 1522 month 2: length 1696, start 5367, middle 6215, end 7063 fen
-in-1522 : hoursIn 87454579 ≡
+abbrev of-1522 : Hours
+of-1522 =
     record {
       length = fen 1696;
       ke = ke 20;
@@ -28,6 +30,8 @@ in-1522 : hoursIn 87454579 ≡
       middle = record { day = 2277039; fen = fen 6215; ke = ke 73 };
       end = record { day = 2277039; fen = fen 7063; ke = ke 84 };
     }
+
+in-1522 : hoursIn 87454579 ≡ of-1522
 unfolding hoursIn timesAt timesFrom lengthOf changeOf changeInRow dailyChange inTable halfOf upperRows lowerRows nearest modulo sunAt moonAt corrections fullMoonSky nodePlace nodeOf distanceOf gradeOf
 in-1522 = refl
 
@@ -35,16 +39,7 @@ has-1522 : hasEclipse 87454579 ≡ true
 unfolding hasEclipse gradeOf nodeOf distanceOf nodePlace nearest modulo sunAt moonAt corrections fullMoonSky
 has-1522 = refl
 
-pub hours-1522 : hoursOf 1 1522 2 false ≡
-    given
-    (record {
-      length = fen 1696;
-      ke = ke 20;
-      over = fen 16;
-      start = record { day = 2277039; fen = fen 5367; ke = ke 63 };
-      middle = record { day = 2277039; fen = fen 6215; ke = ke 73 };
-      end = record { day = 2277039; fen = fen 7063; ke = ke 84 };
-    })
+pub hours-1522 : hoursOf 1 1522 2 false ≡ given of-1522
 unfolding asking hoursOf rulesOf dayAt
 hours-1522 = rw (month-with senmyo senmyo-steady 87454579 (senmyo .rainWater 1522 + 1) tt, has-1522, in-1522)
 

@@ -1,6 +1,6 @@
 -- The call's definition, step by step as the code takes it.
-use mathlib.Core.Path.{_≡_, refl, ap, _∙_}
-use mathlib.Core.Bool.{Bool, true, false}
+use mathlib.Core.Path.{_≡_, ap, _∙_}
+use mathlib.Core.Bool.{Bool}
 use mathlib.Core.List.{[], _∷_}
 use Prim.Native.Nat.{ℕ}
 use native.Mathlib.Omega.{arith}
@@ -8,10 +8,9 @@ use Rattle.answers.specs.Answer.{given, refused, then}
 use Rattle.answers.specs.Conditions.{asking}
 use Rattle.answers.proofs.Conditions.{then-asking}
 use Rattle.senmyo_hours.specs.declared.Times.{Times}
-use Rattle.senmyo_hours.specs.declared.Eclipsed.{Eclipsed}
 use Rattle.senmyo_hours.specs.declared.Eclipsed.the-variants.{At, Not}
 use Rattle.senmyo_hours.specs.Hours.{timesFrom, timesAt, eclipseAt}
-use Rattle.senmyo_hours.proofs.HourLaws.{in-order}
+use Rattle.senmyo_hours.proofs.HourLaws.{in-order, not-eclipsed, eclipsed-at}
 use Rattle.months_rules.specs.Rules.{senmyo}
 use Rattle.months.specs.Room.{Covering}
 use Rattle.calendar_eclipses.specs.Eclipses.{eclipseAsked}
@@ -24,27 +23,16 @@ pub hours-asked : (c y m : ℕ) (leap : Bool) → hoursOf c y m leap ≡ then (e
 unfolding eclipseAsked hoursOf
 hours-asked c y m leap = then-asking _ _ (λ k. (hasEclipse k, 14) ∷ []) hoursIn
 
--- an eclipse, if there is one
-abbrev told : Bool → Times → Eclipsed
-told b times = elim b [ true ↦ At times | false ↦ Not ]
-
-is-not : (b : Bool) (times : Times) → told b times ≡ Not → b ≡ false
-is-not true times e = cc
-is-not false times e = refl
-
-is-at : (b : Bool) (times found : Times) → told b times ≡ At found → (b ≡ true) × (times ≡ found)
-is-at true times found e = (refl, cc)
-is-at false times found e = (cc, cc)
-
+-- where there is none it is refused, and where there is one its times are told
 module _ (k : ℕ) where
   pub without-eclipse : eclipseAt k ≡ Not → asking ((hasEclipse k, 14) ∷ []) (hoursIn k) ≡ refused 14
-  unfolding asking eclipseAt hasEclipse
-  without-eclipse e = ap (λ b. asking ((b, 14) ∷ []) (hoursIn k)) (is-not (hasEclipse k) (timesAt k) e)
+  unfolding asking hasEclipse
+  without-eclipse e = ap (λ b. asking ((b, 14) ∷ []) (hoursIn k)) (not-eclipsed k e)
 
   pub with-eclipse : (times : Times) → eclipseAt k ≡ At times → (asking ((hasEclipse k, 14) ∷ []) (hoursIn k) ≡ given (hoursFrom times)) × (timesAt k ≡ times)
-  unfolding asking eclipseAt hasEclipse hoursIn
+  unfolding asking hasEclipse hoursIn
   with-eclipse times e =
-      let at = is-at (hasEclipse k) (timesAt k) times e in
+      let at = eclipsed-at k times e in
       (ap (λ b. asking ((b, 14) ∷ []) (hoursIn k)) (at .0) ∙ ap (λ t. given (hoursFrom t)) (at .1), at .1)
 
 -- the times of a covered month's eclipse have day numbers: they stand within a day of the full moon

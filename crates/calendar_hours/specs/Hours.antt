@@ -40,12 +40,13 @@ hoursIn k = hoursFrom (timesAt k)
 unfoldable pub hasEclipse : ℕ → Bool
 hasEclipse k = isEclipse (gradeAt k)
 
--- "14, after 3"
+-- what is asked of a month whose hours are wanted: as of its eclipse, and then that there is one
 abbrev pub hoursConditions : ℕ → ℕ → ℕ → Bool → List (Bool × ℕ)
 hoursConditions c y m leap =
     eclipseConditions c y m leap ++
     (hasEclipse (monthNamed (rulesFor c) y m leap), 14) ∷ []
 
+-- the hours of a month that is named
 unfoldable pub hoursOf : ℕ → ℕ → ℕ → Bool → Answer Hours
 hoursOf c y m leap = asking (hoursConditions c y m leap) (hoursIn (monthNamed (rulesFor c) y m leap))
 

@@ -5,12 +5,18 @@ use Rattle.numbers.specs.Sign.{plus}
 use Rattle.units.specs.Units.{fen}
 use Rattle.senmyo_moon.specs.Moon.{upperRows, lowerRows, halfOf, inTable}
 use Rattle.senmyo_moon.specs.Daily.{dailyChange, changeInRow, changeOf}
-use Rattle.senmyo_hours.specs.Hours.{lengthOf, timesFrom, changeAt}
+use Rattle.senmyo_node.specs.Eclipse.{gradeOf}
+use Rattle.senmyo_hours.specs.Hours.{wholeParts, lengthOf, timesFrom, changeAt}
 
 -- the mean full moon stands in lower row 8
 change-1522 : changeAt 87454579 ≡ plus 82
 unfolding changeOf changeInRow dailyChange inTable halfOf upperRows lowerRows
 change-1522 = refl
+
+-- its distance gives 14 parts, strong, which count 15; at 252 of a part it is weak, and none is added
+parts-1522 : (wholeParts (gradeOf (fen 2241)) ≡ 15) × (wholeParts (gradeOf (fen 8979)) ≡ 1)
+unfolding gradeOf
+parts-1522 = (refl, refl)
 
 -- 15 parts with that change
 length-1522 : lengthOf 15 (plus 82) ≡ fen 1696

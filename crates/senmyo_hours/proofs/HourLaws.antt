@@ -161,3 +161,20 @@ unfolding timesAt eclipseAt
 eclipse-parts k n e =
     let parts = parts-told (gradeAt k) n e in
     ap (λ m. At (timesFrom (fullMoonFen k) (lengthOf m (changeAt k)))) (sym (parts .1)) ∙ ap (λ b. told b (timesAt k)) (sym (parts .0))
+
+-- .. and what it tells of them
+is-not : (b : Bool) (times : Times) → told b times ≡ Not → b ≡ false
+is-not true times e = cc
+is-not false times e = refl
+
+is-at : (b : Bool) (times found : Times) → told b times ≡ At found → (b ≡ true) × (times ≡ found)
+is-at true times found e = (refl, cc)
+is-at false times found e = (cc, cc)
+
+pub not-eclipsed : (k : ℕ) → eclipseAt k ≡ Not → isEclipse (gradeAt k) ≡ false
+unfolding eclipseAt
+not-eclipsed k e = is-not (isEclipse (gradeAt k)) (timesAt k) e
+
+pub eclipsed-at : (k : ℕ) (found : Times) → eclipseAt k ≡ At found → (isEclipse (gradeAt k) ≡ true) × (timesAt k ≡ found)
+unfolding eclipseAt
+eclipsed-at k found e = is-at (isEclipse (gradeAt k)) (timesAt k) found e
