@@ -1,4 +1,6 @@
 // The calls: years, days and dates, eclipses with their hours, and instants.
+#![tactic(auto)]
+
 pub use calendar_date::{Date, DateAnswer, DayAnswer, cycle_of, date_number, date_of, day_of};
 pub use calendar_eclipses::{EclipseAnswer, FullMoon, eclipse_of};
 pub use calendar_hours::{Hour, Hours, HoursAnswer, hours_of};

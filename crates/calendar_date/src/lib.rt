@@ -1,4 +1,6 @@
 // The day of a date and the date of a day.
+#![tactic(auto)]
+
 ghost use Rattle.std.specs.Prelude.{◌≡◌};
 ghost use Rattle.months_rules.specs.Rules.{rules_of};
 ghost use Rattle.calendar_date.specs.Dates.{day_of, date_in, date_of, cycle, date_number};
@@ -10,13 +12,13 @@ use calendar_range::CalendarAsked;
 use months_rules::Calendar;
 
 // A day number, or the refusal.
-#[derive(Drop)]
+#[derive(Clone, Copy)]
 pub enum DayAnswer {
     Day(u32),
     Refused(u8),
 }
 
-#[derive(Drop)]
+#[derive(Clone, Copy)]
 pub struct Date {
     pub year: u16,
     pub month: u8,
@@ -24,7 +26,7 @@ pub struct Date {
     pub day: u8,
 }
 
-#[derive(Drop)]
+#[derive(Clone, Copy)]
 pub enum DateAnswer {
     Date(Date),
     Refused(u8),

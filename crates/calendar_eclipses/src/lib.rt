@@ -1,3 +1,5 @@
+#![tactic(auto)]
+
 ghost use Rattle.std.specs.Prelude.{◌≡◌};
 ghost use Rattle.answers.specs.Answer.{refusal_in};
 ghost use Rattle.months_rules.specs.Rules.{senmyo};
@@ -11,7 +13,7 @@ use senmyo_node::{Grade, Side};
 use units::Fen;
 
 // The full moon of a month: its day number, the fen of that day, and where it stands from the node.
-#[derive(Drop)]
+#[derive(Clone, Copy)]
 pub struct FullMoon {
     pub day: u32,
     pub fen: Fen,
@@ -20,20 +22,21 @@ pub struct FullMoon {
 }
 
 // The full moon and how far it is eclipsed, or the refusal.
-#[derive(Drop)]
+#[derive(Clone, Copy)]
 pub enum EclipseAnswer {
     FullMoon(FullMoon, Grade),
     Refused(u8),
 }
 
 // The month whose eclipse is asked for, by the number of its new moon, or the refusal.
-#[derive(Drop)]
+#[derive(Clone, Copy)]
 pub enum EclipseAsked {
     Found(u32),
     Refused(u8),
 }
 
 // Only Senmyo has eclipses.
+#[tactic(auto, unfolding(answers::specs::Conditions::asking, crate::specs::Eclipses::eclipse_asked))]
 pub fn asked_eclipse(calendar: u64, year: u64, month: u64, leap: bool) -> EclipseAsked
     ensures { asked_means result ≡ eclipse_asked calendar year month leap }
 {

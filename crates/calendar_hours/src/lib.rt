@@ -1,3 +1,5 @@
+#![tactic(auto)]
+
 ghost use Rattle.std.specs.Prelude.{◌≡◌};
 ghost use Rattle.calendar_hours.specs.Hours.{hour_at, hours_from, hours_of};
 ghost use Rattle.calendar_hours.specs.Answers.{hours_means};
@@ -9,7 +11,7 @@ use senmyo_hours::{Eclipsed, Times};
 use units::{Fen, Ke};
 
 // A moment by its day number, the fen of that day, and the ke that it falls in.
-#[derive(Drop)]
+#[derive(Clone, Copy)]
 pub struct Hour {
     pub day: u32,
     pub fen: Fen,
@@ -17,7 +19,7 @@ pub struct Hour {
 }
 
 // How long an eclipse lasts, in fen, and the same as ke and the fen over; its start, middle and end.
-#[derive(Drop)]
+#[derive(Clone, Copy)]
 pub struct Hours {
     pub length: Fen,
     pub ke: Ke,
@@ -27,7 +29,7 @@ pub struct Hours {
     pub end: Hour,
 }
 
-#[derive(Drop)]
+#[derive(Clone, Copy)]
 pub enum HoursAnswer {
     Hours(Hours),
     Refused(u8),

@@ -1,3 +1,5 @@
+#![tactic(auto)]
+
 ghost use Rattle.std.specs.Prelude.{◌≡◌, true, ◌+◌, ◌≤◌};
 ghost use Rattle.answers.specs.Answer.{refusal_in};
 ghost use Rattle.months_rules.specs.Rules.{rules_of};
@@ -12,14 +14,14 @@ use calendar_range::YearAsked;
 use months_rules::{Begun, Calendar};
 
 // The month whose moons are asked for, by the number of its new moon, or the refusal.
-#[derive(Drop)]
+#[derive(Clone, Copy)]
 pub enum MoonAsked {
     Found(Calendar, u32),
     Refused(u8),
 }
 
 // The month that a date names, with its first day, or the refusal.
-#[derive(Drop)]
+#[derive(Clone, Copy)]
 pub enum MonthAsked {
     Found(Calendar, Begun),
     Refused(u8),

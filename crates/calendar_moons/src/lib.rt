@@ -1,3 +1,5 @@
+#![tactic(auto)]
+
 ghost use Rattle.std.specs.Prelude.{◌≡◌};
 ghost use Rattle.months_rules.specs.Rules.{rules_of};
 ghost use Rattle.calendar_moons.specs.Instants.{instant_in, new_moon_of, full_moon_of, moons_of};
@@ -8,27 +10,27 @@ use calendar_month::MoonAsked;
 use months_rules::{Calendar, Moment};
 
 // A Julian date, or the refusal.
-#[derive(Drop)]
+#[derive(Clone, Copy)]
 pub enum Instant {
     At(f64),
     Refused(u8),
 }
 
 // The new and the full moon of a month, as Julian dates.
-#[derive(Drop)]
+#[derive(Clone, Copy)]
 pub struct Moons {
     pub new: f64,
     pub full: f64,
 }
 
-#[derive(Drop)]
+#[derive(Clone, Copy)]
 pub enum MoonsAnswer {
     Both(Moons),
     Refused(u8),
 }
 
 // One of the two moons of a month.
-#[derive(Drop)]
+#[derive(Clone, Copy)]
 enum Phase {
     New,
     Full,

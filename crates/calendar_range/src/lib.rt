@@ -1,4 +1,6 @@
 // What calendars and years are covered: the numbers of a call, or the refusal.
+#![tactic(auto)]
+
 ghost use Rattle.std.specs.Prelude.{◌≡◌, ◌&&◌};
 ghost use Rattle.answers.specs.Answer.{refusal_in};
 ghost use Rattle.calendar_range.specs.Range.{is_calendar, rules_for, is_covered, calendar_of, year_asked};
@@ -7,14 +9,14 @@ ghost use Rattle.calendar_range.specs.Answers.{calendar_means, year_means};
 use months_rules::Calendar;
 
 // The calendar that a number names, or the refusal.
-#[derive(Drop)]
+#[derive(Clone, Copy)]
 pub enum CalendarAsked {
     Known(Calendar),
     Refused(u8),
 }
 
 // The covered year that two numbers name, or the refusal.
-#[derive(Drop)]
+#[derive(Clone, Copy)]
 pub enum YearAsked {
     Covered(Calendar, u16),
     Refused(u8),

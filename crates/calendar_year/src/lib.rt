@@ -1,4 +1,6 @@
 // A year and its months.
+#![tactic(auto)]
+
 ghost use Rattle.std.specs.Prelude.{◌≡◌, ◌+◌, ◌-◌, ◌<◌};
 ghost use Rattle.months_rules.specs.Rules.{rules_of};
 ghost use Rattle.months.specs.Room.{CoveredMonth};
@@ -11,7 +13,7 @@ use calendar_range::YearAsked;
 use months_rules::{Begun, Calendar};
 
 // A month of a year, its first day by day number.
-#[derive(Drop)]
+#[derive(Clone, Copy)]
 pub struct Month {
     pub number: u8,
     pub leap: bool,
@@ -20,7 +22,7 @@ pub struct Month {
 }
 
 // A year: its days, the number of its leap month or 0, and its months in order. Places after the last month hold zero.
-#[derive(Drop)]
+#[derive(Clone, Copy)]
 pub struct Year {
     pub days: u16,
     pub leap: u8,
@@ -29,14 +31,14 @@ pub struct Year {
 }
 
 // A year, or the refusal's number and a year of zeros.
-#[derive(Drop)]
+#[derive(Clone, Copy)]
 pub struct YearAnswer {
     pub refusal: u8,
     pub year: Year,
 }
 
 // What is known of a year after some of its months.
-#[derive(Drop)]
+#[derive(Clone, Copy)]
 struct Listing {
     leap: u8,
     months: [Month; 13],

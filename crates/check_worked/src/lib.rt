@@ -1,1 +1,2 @@
 // No code: the eight worked cases are claims about the definitions (specs/Worked.antt).
+#![tactic(auto)]

@@ -1,15 +1,17 @@
+#![tactic(auto)]
+
 ghost use Rattle.std.specs.Prelude.{◌≡◌};
 ghost use Rattle.cycles.specs.Cycles.{cycle_moment, cycle_day, last_by, dated, Apart};
 
 // What comes round again and again, the first at the start of the count: so many units from one to the next, of which a day has so many.
-#[derive(Drop)]
+#[derive(Clone, Copy)]
 pub struct Cycle {
     pub spacing: u32,
     pub of_day: u32,
 }
 
 // One of them, by its number, with its day.
-#[derive(Drop)]
+#[derive(Clone, Copy)]
 pub struct Dated {
     pub number: u32,
     pub day: u64,

@@ -1,14 +1,16 @@
+#![tactic(auto)]
+
 ghost use Rattle.std.specs.Prelude.{◌≡◌, ◌*◌, ◌<◌, ◌^◌};
 ghost use Rattle.genka.specs.Genka.{part_to_half_parts, new_moon, full_moon};
 
 use cycles::Cycle;
 
 // 1/752 of a day.
-#[derive(Drop)]
+#[derive(Clone, Copy)]
 pub struct Part(pub u64);
 
 // Half a part.
-#[derive(Drop)]
+#[derive(Clone, Copy)]
 pub struct HalfPart(pub u64);
 
 pub const HALF_PARTS_IN_DAY: u32 = 2 * NEW_MOONS.of_day;

@@ -6,7 +6,7 @@ use native.Mathlib.Nat.{mul-pos, zero-lt-suc}
 use native.Mathlib.Omega.{arith}
 use lib.Dec.{T, le→leb, eqb-suc-zero}
 use lib.IntN.{pos}
-use lib.Ieee.{Float, fin, Format, binary64, down, round, div, of_int, in_float}
+use lib.Ieee.{Float, nan, inf, fin, Format, binary64, down, round, div, of_int, in_float}
 use lib.Ieee.Fits.{up_pos, down_pos}
 use lib.Ieee.Exact.{HasValue}
 use lib.Ieee.Back.{round_whole}
@@ -16,6 +16,10 @@ use Rattle.julian.specs.Julian.{rounded}
 -- a floating number that is n, by one that is d
 quotient : (f : Format) (n d : ℕ) (x y : Float) → 0 < d → HasValue x false n 1 → HasValue y false d 1 → div f x y ≡ round f false n d
 unfolding div
+quotient f n d nan y some h k = elim h [ ]
+quotient f n d (inf _) y some h k = elim h [ ]
+quotient f n d (fin s m e) nan some h k = elim k [ ]
+quotient f n d (fin s m e) (inf _) some h k = elim k [ ]
 quotient f n d (fin s m e) (fin t zero g) some h k = absurd (omega (arith, mul-pos some (down_pos g), k.1))
 quotient f n d (fin s m e) (fin t (suc l) g) some h k =
     let dividend = ap (λ (z : ℕ). z * (down g * d)) h.1 in

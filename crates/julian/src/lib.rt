@@ -1,3 +1,5 @@
+#![tactic(auto)]
+
 ghost use Rattle.std.specs.Prelude.{◌≡◌};
 ghost use Rattle.julian.specs.Julian.{instant};
 ghost use Rattle.julian.specs.Room.{Datable};

@@ -1,3 +1,5 @@
+#![tactic(auto)]
+
 ghost use Rattle.std.specs.Prelude.{◌≡◌};
 ghost use Rattle.months_rules.specs.Rules.{senmyo, rules_of};
 ghost use Rattle.months_rules.specs.FirstMonths.{begun, month_of};
@@ -8,7 +10,7 @@ use genka::NEW_MOONS;
 use months_rules::{Begun, Calendar};
 
 // The last mid-term by a month's end, and whether the month is leap: then it falls before the month's start.
-#[derive(Drop)]
+#[derive(Clone, Copy)]
 pub struct LastTerm {
     pub term: u32,
     pub leap: bool,
@@ -26,6 +28,7 @@ fn senmyo_month(day: u32) -> Begun
 }
 
 // The month that has a day.
+#[tactic(auto, unfolding(months_rules::specs::Rules::rules_of))]
 pub fn month_of(calendar: Calendar, day: u32) -> Begun
     ensures { result ≡ begun (rules_of calendar) (month_of (rules_of calendar) day) }
 {
@@ -56,6 +59,7 @@ fn senmyo_month_by(day: u32) -> u32
 }
 
 // The month that has a day, by its number alone.
+#[tactic(auto, unfolding(months_rules::specs::Rules::rules_of))]
 pub fn month_by(calendar: Calendar, day: u32) -> u32
     ensures { result ≡ month_of (rules_of calendar) day }
 {

@@ -1,3 +1,5 @@
+#![tactic(auto)]
+
 ghost use Rattle.std.specs.Prelude.{◌≡◌, ◌+◌, ◌*◌, ◌<◌, ◌^◌};
 ghost use Rattle.cycles.specs.Cycles.{last_by, dated};
 ghost use Rattle.months_rules.specs.Rules.{mid, term_number, rules_of};
@@ -8,14 +10,14 @@ use cycles::{Cycle, Dated};
 use genka::{HALF_PARTS_IN_DAY, NEW_MOONS};
 use units::FEN_IN_DAY;
 
-#[derive(Drop)]
+#[derive(Clone, Copy)]
 pub enum Calendar {
     Senmyo,
     Genka,
 }
 
 // What is told of a calendar by a number.
-#[derive(Drop)]
+#[derive(Clone, Copy)]
 pub struct CalendarNumbers {
     // The covered years.
     pub first_year: u16,
@@ -33,14 +35,14 @@ pub struct CalendarNumbers {
 }
 
 // A month by the number of its new moon, with the day on which it starts.
-#[derive(Drop)]
+#[derive(Clone, Copy)]
 pub struct Begun {
     pub month: u32,
     pub start: u64,
 }
 
 // A moment, in so many units from the calendar's origin, of which a day has so many.
-#[derive(Drop)]
+#[derive(Clone, Copy)]
 pub struct Moment {
     pub units: u64,
     pub of_day: u32,
@@ -88,6 +90,7 @@ pub fn term_number(calendar: Calendar, term: u32) -> u8
 
 // The last mid-term by the end of a day, with its own day, both in whole days from the calendar's origin. Each way names its cycle, so that the compiler divides
 // by constants alone.
+#[tactic(auto, unfolding(crate::specs::Rules::rules_of))]
 pub fn mid_term_by(calendar: Calendar, day: u32) -> Dated
     ensures { result ≡ dated (rules_of calendar).terms (last_by (rules_of calendar).terms day) }
 {
@@ -106,6 +109,7 @@ fn term_of(numbers: CalendarNumbers, year: u16, after: u8) -> u32
 }
 
 // Its day.
+#[tactic(auto, unfolding(crate::specs::Rules::rules_of))]
 pub fn term_day(calendar: Calendar, year: u16, after: u8) -> u32
     ensures { result ≡ mid (rules_of calendar) ((rules_of calendar).rain_water year + after) }
 {
@@ -124,6 +128,7 @@ pub fn term_year(calendar: Calendar, term: u32) -> u16
 }
 
 // A month, by the number of its new moon, with its first day in whole days from the calendar's origin.
+#[tactic(auto, unfolding(crate::specs::Rules::rules_of))]
 pub fn begin(calendar: Calendar, month: u32) -> Begun
     ensures { result ≡ begun (rules_of calendar) month }
 {
@@ -140,6 +145,7 @@ pub fn begin(calendar: Calendar, month: u32) -> Begun
 }
 
 // The new moon of a month, before any advance.
+#[tactic(auto, unfolding(crate::specs::Rules::rules_of))]
 pub fn new_moon(calendar: Calendar, month: u32) -> Moment
     ensures { result ≡ (rules_of calendar).new_moon month }
 {
@@ -156,6 +162,7 @@ pub fn new_moon(calendar: Calendar, month: u32) -> Moment
 }
 
 // The full moon of a month.
+#[tactic(auto, unfolding(crate::specs::Rules::rules_of))]
 pub fn full_moon(calendar: Calendar, month: u32) -> Moment
     ensures { result ≡ (rules_of calendar).full_moon month }
 {

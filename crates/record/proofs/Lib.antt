@@ -7,3 +7,4 @@ pub mod Steps
 pub mod RecordLaws
 pub mod Figures
 pub mod OneAnswer
+pub mod Short

@@ -1,10 +1,10 @@
 -- What the code finds step by step is what the definitions say in one line.
-use mathlib.Core.Path.{◌≡◌, refl, ap, ◌∙◌}
+use mathlib.Core.Path.{◌≡◌, refl, sym, ap, ◌∙◌}
 use mathlib.Core.Bool.{true}
 use mathlib.Core.List.{List, [], ◌∷◌, ◌++◌}
 use Prim.Native.Nat.{ℕ, ◌≤◌}
 use lib.ListN.{length, get_or, take, drop}
-use lib.Seq.{take-length}
+use lib.Seq.{take-length, length-take-le}
 use borrow.Author.Tests.{le-leb, eq-eqb}
 use Rattle.answers.specs.Answer.{given, refused, then}
 use Rattle.answers.specs.Conditions.{asking}
@@ -29,9 +29,17 @@ pub write_then : (c y : ℕ) (buffer : List ℕ) → size ≤ length buffer → 
 unfolding asking write_of fields_of
 write_then c y buffer room = rw (le-leb size (length buffer) room) (then_given (year_conditions c y) _ (λ x. field_bytes layout x ++ drop size buffer))
 
--- a record's bytes copied to the front
+-- a record's bytes copied to the front: told of the whole buffer ..
 pub copied : (bytes buffer left : List ℕ) (x : Fields) → bytes ≡ field_bytes layout x → left ≡ take (length bytes) bytes ++ drop (length bytes) buffer → left ≡ field_bytes layout x ++ drop size buffer
 copied bytes buffer left x e f = f ∙ ap (λ l. l ++ drop (length bytes) buffer) (take-length bytes) ∙ rw (ap length e ∙ all_bytes x, e)
+
+-- .. and of its front
+pub copied_front : (bytes buffer front : List ℕ) (x : Fields) → bytes ≡ field_bytes layout x → front ≡ bytes → front ++ drop size buffer ≡ field_bytes layout x ++ drop size buffer
+copied_front bytes buffer front x e f = rw (f, e)
+
+-- .. where there is room for them
+pub room_for : (bytes buffer : List ℕ) (x : Fields) → bytes ≡ field_bytes layout x → size ≤ length buffer → length (take size buffer) ≡ length bytes
+room_for bytes buffer x e room = length-take-le size buffer room ∙ sym (all_bytes x) ∙ sym (ap length e)
 
 -- ---- reading
 

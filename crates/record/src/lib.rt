@@ -1,3 +1,5 @@
+#![tactic(auto)]
+
 ghost use Rattle.std.specs.Prelude.{◌≡◌, length};
 ghost use Rattle.answers.specs.Answer.{refusal_in, left_in};
 ghost use Rattle.record_fields.specs.Tagged.{numbers_of, number_at, numbers_at, same};
@@ -9,6 +11,7 @@ ghost use Rattle.record.specs.Room.{NumberThere, accepted_of};
 pub use record_fields::{Fields, RecordAnswer};
 
 // Writes the record of a year into the first 25 bytes of a buffer. Answers the refusal's number, or 0.
+#[tactic(auto, using(crate::proofs::Short::short_refusal, crate::proofs::Short::short_left))]
 pub fn write_record(calendar: u64, year: u64, buffer: &mut [u8]) -> u8
     ensures refusal { result ≡ refusal_in (write_of calendar year buffer.old) }
     ensures left { buffer.new ≡ left_in buffer.old (write_of calendar year buffer.old) }
@@ -21,7 +24,7 @@ pub fn write_record(calendar: u64, year: u64, buffer: &mut [u8]) -> u8
         return rule.refusal;
     }
     let bytes = record_fields::bytes_of(rule.fields);
-    bytes::copy(&bytes, buffer);
+    buffer[..25].copy_from_slice(&bytes);
     0
 }
 
@@ -91,6 +94,7 @@ fn accepted(found: Fields) -> RecordAnswer
 }
 
 // Reads a record, and accepts none but the rule's own.
+#[tactic(auto, using(crate::proofs::Short::other_length))]
 pub fn read_record(bytes: &[u8]) -> RecordAnswer
     ensures { result ≡ record_answer (read_of bytes.now) }
 {

@@ -1,3 +1,5 @@
+#![tactic(auto)]
+
 ghost use Rattle.std.specs.Prelude.{◌≡◌, ◌+◌, ◌*◌, ◌<◌};
 ghost use Rattle.answers.specs.Answer.{refused};
 ghost use Rattle.record_fields.specs.Tagged.{field_bytes};
@@ -8,7 +10,7 @@ ghost use Rattle.record_fields.specs.Room.{fields_of};
 use calendar_year::Month;
 
 // What a year's record says.
-#[derive(Drop)]
+#[derive(Clone, Copy)]
 pub struct Fields {
     pub calendar: u8,
     pub year: u16,
@@ -18,7 +20,7 @@ pub struct Fields {
 }
 
 // The fields of a record, or the refusal's number and fields of zero.
-#[derive(Drop)]
+#[derive(Clone, Copy)]
 pub struct RecordAnswer {
     pub refusal: u8,
     pub fields: Fields,

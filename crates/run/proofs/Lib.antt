@@ -2,3 +2,4 @@ pub mod Steps
 pub mod Refusals
 pub mod History
 pub mod OneAnswer
+pub mod Limits

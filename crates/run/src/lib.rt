@@ -1,3 +1,5 @@
+#![tactic(auto)]
+
 ghost use Rattle.std.specs.Prelude.{◌≡◌};
 ghost use Rattle.calendar_date.specs.Answers.{day_means, date_means};
 ghost use Rattle.run_content.specs.Runs.{no_run};
@@ -9,7 +11,7 @@ use calendar_range::YearAsked;
 pub use run_content::Run;
 
 // The run that was asked for and 0, or the refusal's number and the run as it was given; a run of zeros where none was.
-#[derive(Drop)]
+#[derive(Clone, Copy)]
 pub struct RunAnswer {
     pub refusal: u8,
     pub run: Run,
@@ -33,6 +35,7 @@ pub fn open_run(calendar: u64, year: u64) -> RunAnswer
 }
 
 // The run with its next year.
+#[tactic(auto, using(crate::proofs::Limits::full_refused))]
 pub fn extend_run(run: Run) -> RunAnswer
     ensures { result ≡ run_answer run (extend_of run) }
 {
@@ -54,6 +57,7 @@ pub fn extend_run(run: Run) -> RunAnswer
 }
 
 // The run without its first year.
+#[tactic(auto, using(crate::proofs::Limits::last_refused))]
 pub fn drop_oldest(run: Run) -> RunAnswer
     ensures { result ≡ run_answer run (drop_of run) }
 {

@@ -1,3 +1,5 @@
+#![tactic(auto)]
+
 ghost use Rattle.std.specs.Prelude.{◌≡◌, ◌+◌, ◌-◌};
 ghost use Rattle.months.specs.Months.{month_count};
 ghost use Rattle.calendar_range.specs.Range.{rules_for};
@@ -9,7 +11,7 @@ use calendar_year::{Month, Year};
 
 // Consecutive years of one calendar, how many months they have, and of each month in order its first day and its last date, as `date_number` has it.
 // Places after the last month hold zero.
-#[derive(Drop)]
+#[derive(Clone, Copy)]
 pub struct Run {
     pub calendar: u8,
     pub first_year: u16,

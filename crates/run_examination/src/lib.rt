@@ -1,3 +1,5 @@
+#![tactic(auto)]
+
 ghost use Rattle.std.specs.Prelude.{◌≡◌, eqb};
 ghost use Rattle.numbers.specs.Same.{same_by};
 ghost use Rattle.run_examination.specs.Examined.{head, same_run, can_be_kept, is_run};

@@ -1,3 +1,5 @@
+#![tactic(auto)]
+
 ghost use Rattle.std.specs.Prelude.{◌≡◌, ◌<◌, ◌≤◌};
 ghost use Rattle.calendar_date.specs.Answers.{day_means, date_means};
 ghost use Rattle.run_content.specs.Room.{Kept};
@@ -8,7 +10,7 @@ use calendar_date::{Date, DateAnswer, DayAnswer};
 use run_content::Run;
 
 // Where a month stands in a run.
-#[derive(Drop)]
+#[derive(Clone, Copy)]
 enum Place {
     At(usize),
     Nowhere,

@@ -1,3 +1,5 @@
+#![tactic(auto)]
+
 ghost use Rattle.std.specs.Prelude.{◌≡◌, ◌<◌, ◌≤◌, ◌^◌, pos, nat_abs, ◌+ℤ◌};
 ghost use Rattle.numbers.specs.Sign.{whole};
 ghost use Rattle.senmyo.specs.Phases.{moon_at, new_moon, advanced_day, new_moon_day};
@@ -19,7 +21,7 @@ const MOST_EARLY: u64 = 1526 + 3195;
 const MOST_LATE: u64 = 1526 + 3225;
 
 // A full moon as the sky has it: its mean moment, the corrections at that moment, in fen, the true moment, exactly, and the place from the node.
-#[derive(Drop)]
+#[derive(Clone, Copy)]
 pub struct Sky {
     pub mean: Byo,
     pub sun: i64,

@@ -1,3 +1,5 @@
+#![tactic(auto)]
+
 ghost use Rattle.std.specs.Prelude.{◌≡◌, ◌≤◌, nat_abs};
 ghost use Rattle.senmyo_node.specs.Answers.{grade_means};
 ghost use Rattle.senmyo_hours.specs.Hours.{length_of, times_from, eclipse_at};
@@ -10,7 +12,7 @@ use units::{FEN_IN_DAY, Fen};
 const FEN_IN_PART: u64 = 112;
 
 // How long an eclipse lasts, and its start, middle and end, counted from the start of the count.
-#[derive(Drop)]
+#[derive(Clone, Copy)]
 pub struct Times {
     pub length: Fen,
     pub start: Fen,
@@ -19,14 +21,14 @@ pub struct Times {
 }
 
 // The times of an eclipse, if there is one.
-#[derive(Drop)]
+#[derive(Clone, Copy)]
 pub enum Eclipsed {
     At(Times),
     Not,
 }
 
 // The parts of an eclipse as a whole number, if there is one.
-#[derive(Drop)]
+#[derive(Clone, Copy)]
 enum Parts {
     Whole(u64),
     None,

@@ -1,3 +1,5 @@
+#![tactic(auto)]
+
 ghost use Rattle.std.specs.Prelude.{◌≡◌};
 ghost use Rattle.senmyo_means.specs.Means.{mean_new_moon, mean_full_moon};
 

@@ -1,3 +1,5 @@
+#![tactic(auto)]
+
 ghost use Rattle.std.specs.Prelude.{◌≡◌, ◌*◌, ◌<◌, ◌^◌};
 ghost use Rattle.senmyo_moon.specs.Moon.{seconds_to_half_seconds, gaining_in7, moon_of};
 ghost use Rattle.senmyo_moon.specs.Daily.{change_of};
@@ -6,15 +8,15 @@ ghost use Rattle.senmyo_moon.specs.Room.{stand_on, first_row, first_row_at, leng
 use units::{AnomalySecond, FEN_IN_DAY};
 
 // Half an anomaly second, 1/200 fen: the half period is not whole in anomaly seconds.
-#[derive(Drop)]
+#[derive(Clone, Copy)]
 struct HalfSecond(u64);
 
 // A row, or a part of row 7, under the sign of its half, in fen: its change, and the sum before it.
-#[derive(Drop)]
+#[derive(Clone, Copy)]
 struct SignedRow(i64, i64);
 
 // Where a moment stands: in which half, on which day of it, from 0, and how far into that day.
-#[derive(Drop)]
+#[derive(Clone, Copy)]
 struct RowPlace {
     upper: bool,
     day: usize,
@@ -22,7 +24,7 @@ struct RowPlace {
 }
 
 // A stretch of the table along which the correction changes evenly: a day, a part of row 7, or what stands for a day in row 14.
-#[derive(Drop)]
+#[derive(Clone, Copy)]
 enum Stretch {
     WholeDay,
     GainingIn7,
@@ -31,7 +33,7 @@ enum Stretch {
 }
 
 // A stretch, its change and sum, and how far along it a moment stands.
-#[derive(Drop)]
+#[derive(Clone, Copy)]
 struct Stand {
     row: SignedRow,
     over: HalfSecond,

@@ -1,3 +1,5 @@
+#![tactic(auto)]
+
 ghost use Rattle.std.specs.Prelude.{◌≡◌, ◌*◌, ◌<◌, ◌≤◌, ◌^◌, min, nat_abs};
 ghost use Rattle.senmyo_node.specs.Eclipse.{node_period, byo_to_node_seconds, moon_share, half_node_period, node_place, distance_of, node_of, grade_of};
 ghost use Rattle.senmyo_node.specs.Answers.{grade_means};
@@ -20,31 +22,31 @@ const LIMIT: Fen = Fen(9737);
 const TOTAL: Fen = Fen(2147);
 
 // 1/10,000 fen.
-#[derive(Drop)]
+#[derive(Clone, Copy)]
 pub struct NodeSecond(pub u64);
 
-#[derive(Drop)]
+#[derive(Clone, Copy)]
 pub enum Side {
     Yang,
     Yin,
 }
 
 // Where the full moon stands from the node.
-#[derive(Drop)]
+#[derive(Clone, Copy)]
 pub struct Node {
     pub side: Side,
     pub distance: Fen,
 }
 
 // How much of the Moon is eclipsed: parts of fifteen, and the remainder, which is strong or weak.
-#[derive(Drop)]
+#[derive(Clone, Copy)]
 pub struct Share {
     pub parts: u8,
     pub remainder: u16,
     pub strong: bool,
 }
 
-#[derive(Drop)]
+#[derive(Clone, Copy)]
 pub enum Grade {
     None,
     Total,

@@ -14,7 +14,7 @@ use lib.Seq.{drop-cons}
 use Rattle.numbers.proofs.Tests.{every, at_each, at_each_row}
 use Rattle.units.specs.declared.Byo.{Byo}
 use Rattle.units.specs.Units.{day_byo, fen_to_byo}
-use Rattle.senmyo_means.specs.Means.{solar_year, term_spacing}
+use Rattle.senmyo_means.specs.Means.{solar_year}
 use Rattle.senmyo_sun.specs.declared.TermPlace.{TermPlace}
 use Rattle.senmyo_sun.specs.Sun.{rate, first, sum, Row, solstice_row, later_rows, sun_rows, no_row, place, place_in, sun_place}
 use Rattle.senmyo_sun.specs.Room.{lasting, start_of, TermAt}
@@ -82,28 +82,22 @@ place_at n x h =
     sym (place_here (get_or sun_rows n no_row) (drop (n + 1) sun_rows) (x - start_of n) within) ∙ passed n x h.one_of_24 h.from
 
 -- half a mean term after the mean start of each term stands between its start and the next one's, by two tests over the table
-half_between : (n : ℕ) → n < 24 → (2 * start_of n ≤ (2 * n + 1) * term_spacing.0) × ((2 * n + 1) * term_spacing.0 ≤ 2 * start_of (n + 1))
+half_between : (n : ℕ) → n < 24 → (2 * start_of n ≤ (2 * n + 1) * 1022685) × ((2 * n + 1) * 1022685 ≤ 2 * start_of (n + 1))
 unfolding every solstice_row later_rows
 half_between n h =
-    let from = at_each (λ i. leb (2 * start_of i) ((2 * i + 1) * term_spacing.0)) 0 24 tt n (omega arith) h in
-    let to = at_each (λ i. leb ((2 * i + 1) * term_spacing.0) (2 * start_of (i + 1))) 0 24 tt n (omega arith) h in
+    let from = at_each (λ i. leb (2 * start_of i) ((2 * i + 1) * 1022685)) 0 24 tt n (omega arith) h in
+    let to = at_each (λ i. leb ((2 * i + 1) * 1022685) (2 * start_of (i + 1))) 0 24 tt n (omega arith) h in
     (leb→le _ _ from, leb→le _ _ to)
 
--- the 24 spans fill the year ..
-pub year_filled : lasting sun_rows ≡ (fen_to_byo solar_year).0
+year_start : start_of 24 ≡ 24544440
 unfolding solstice_row later_rows
-year_filled = refl
-
--- .. and a term after them would start with the next one
-next_year : start_of 24 ≡ (fen_to_byo solar_year).0
-unfolding later_rows
-next_year = year_filled
+year_start = refl
 
 -- the term that by the mean starts nearest to a moment
 abbrev nearest_term : ℕ → ℕ
-nearest_term x = (2 * x + term_spacing.0) / (2 * term_spacing.0)
+nearest_term x = (2 * x + 1022685) / 2045370
 
-module _ (x : ℕ) (inside : x < (fen_to_byo solar_year).0) where
+module _ (x : ℕ) (inside : x < 24544440) where
   -- if it has started, it is one of the 24, and the moment falls in it
   pub at_nearest : start_of (nearest_term x) ≤ x → TermAt (nearest_term x) x
   at_nearest from = by (ltb (nearest_term x) 24) refl
@@ -114,7 +108,7 @@ module _ (x : ℕ) (inside : x < (fen_to_byo solar_year).0) where
           record { one_of_24 = few; from = from; to = omega (arith, half_between (nearest_term x) few) }
       by false e =
           let last : nearest_term x ≡ 24 = omega (arith, ltb-false (nearest_term x) 24 e) in
-          absurd (omega (arith, ap start_of last, next_year))
+          absurd (omega (arith, ap start_of last, year_start))
 
   -- if it has not, there is one before it ..
   pub not_first : x < start_of (nearest_term x) → 1 ≤ nearest_term x
@@ -149,6 +143,11 @@ found_in P r (q ∷ qs) x rows h =
     by_span true e later =
         record { row = r; its_term = refl; holds = rows 0 (omega arith); within = ltb-true x r.span.0 e }
     by_span false e later = later (ltb-false x r.span.0 e)
+
+-- the 24 spans fill the year
+pub year_filled : lasting sun_rows ≡ (fen_to_byo solar_year).0
+unfolding solstice_row later_rows
+year_filled = refl
 
 pub found : (P : Row → Type 0) → ((i : ℕ) → i < 24 → P (get_or sun_rows i no_row)) → (at : Byo) → Found P (sun_place at)
 unfolding sun_place

@@ -1,3 +1,5 @@
+#![tactic(auto)]
+
 ghost use Rattle.std.specs.Prelude.{◌≡◌, ◌-◌, ◌*◌, ◌/◌, ◌<◌, ◌≤◌, get_or};
 ghost use Rattle.units.specs.Units.{byo, fen_to_byo};
 ghost use Rattle.senmyo_means.specs.Means.{solar_year};
@@ -8,11 +10,11 @@ use senmyo_means::SOLAR_YEAR;
 use units::{BYO_IN_DAY, BYO_IN_FEN, Byo};
 
 // A true term as the page prints it: rate, first and sum in 1/10,000 fen. (Its span is in `start_of`.)
-#[derive(Drop)]
+#[derive(Clone, Copy)]
 pub struct Term(pub i64, pub i64, pub i64);
 
 // A true term, and how far into it a moment stands.
-#[derive(Drop)]
+#[derive(Clone, Copy)]
 pub struct TermPlace {
     pub term: Term,
     pub into: Byo,
@@ -24,6 +26,7 @@ const YEAR: Byo = Byo(SOLAR_YEAR.0 * BYO_IN_FEN);
 const MEAN_TERM: Byo = Byo(YEAR.0 / 24);
 
 // The 24 true terms from the solstice (003, Table 2, with Xiaohan's first mended).
+#[tactic(auto, unfolding(crate::specs::Sun::solstice_row, crate::specs::Sun::later_rows))]
 fn true_term(number: usize) -> Term
     requires { number < 24 }
     ensures { result ≡ (get_or sun_rows number no_row).term }
@@ -109,6 +112,7 @@ const DAXUE: Byo = Byo(XIAOXUE.0 + 14 * BYO_IN_DAY + 5235 * BYO_IN_FEN + 5);
 const NEXT_DONGZHI: Byo = Byo(DAXUE.0 + 14 * BYO_IN_DAY + 4235 * BYO_IN_FEN + 5);
 
 // From the solstice to the start of a term; for 24, to the end of the year.
+#[tactic(auto, unfolding(crate::specs::Sun::solstice_row, crate::specs::Sun::later_rows))]
 fn start_of(number: usize) -> Byo
     requires { number ≤ 24 }
     ensures { result ≡ byo (start_of number) }

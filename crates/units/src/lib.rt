@@ -1,3 +1,5 @@
+#![tactic(auto)]
+
 ghost use Rattle.std.specs.Prelude.{◌≡◌, ◌*◌, ◌<◌, ◌^◌};
 ghost use Rattle.units.specs.Units.{fen_to_byo, byo_to_fen, byo_to_anomaly_seconds, whole_days, fen_of_day, whole_ke, fen_over_ke};
 
@@ -12,19 +14,19 @@ pub const BYO_IN_DAY: u64 = FEN_IN_DAY * BYO_IN_FEN;
 const FEN_IN_KE: u64 = 84;
 
 // 1/8,400 of a day.
-#[derive(Drop)]
+#[derive(Clone, Copy)]
 pub struct Fen(pub u64);
 
 // 1/8 fen.
-#[derive(Drop)]
+#[derive(Clone, Copy)]
 pub struct Byo(pub u64);
 
 // 1/100 fen.
-#[derive(Drop)]
+#[derive(Clone, Copy)]
 pub struct AnomalySecond(pub u64);
 
 // 1/100 of a day.
-#[derive(Drop)]
+#[derive(Clone, Copy)]
 pub struct Ke(pub u64);
 
 pub fn fen_to_byo(moment: Fen) -> Byo
