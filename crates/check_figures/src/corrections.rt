@@ -2,10 +2,11 @@
 ghost use Rattle.std.specs.Prelude.{◌≤◌};
 
 use crate::signs;
+use std::io;
 use units::{AnomalySecond, Byo};
 
 // The least and the most of a correction at the moments that were tried, and all that it adds and all that it takes off.
-#[derive(Drop)]
+#[derive(Clone, Copy)]
 struct Extent {
     least: i64,
     most: i64,
@@ -63,29 +64,32 @@ fn extent_of(of_sun: bool, moments: u64) -> Extent
     extent
 }
 
-fn print_extent(extent: Extent) {
-    signs::print_signed(extent.least);
-    signs::print_signed(extent.most);
-    check_print::print_after_spaces(&[extent.added, extent.taken]);
-    year_print::print_line_end();
+fn print_extent(rt: &impl Print, extent: Extent) -> io::Result<()> {
+    signs::print_signed(rt, extent.least)?;
+    signs::print_signed(rt, extent.most)?;
+    check_print::print_after_spaces(rt, &[extent.added, extent.taken])?;
+    year_print::print_line_end(rt)
 }
 
-pub fn print_extents() {
+pub fn print_extents(rt: &impl Print) -> io::Result<()> {
     check_print::print_text(
+        rt,
         b"Sun, least, most, all that it adds and all that it takes off, every 25 fen of a year:",
-    );
-    print_extent(extent_of(true, 122_723));
-    check_print::print_text(b"Moon, the same, every 5 fen of its period:");
-    print_extent(extent_of(false, 46_292));
+    )?;
+    print_extent(rt, extent_of(true, 122_723))?;
+    check_print::print_text(rt, b"Moon, the same, every 5 fen of its period:")?;
+    print_extent(rt, extent_of(false, 46_292))
 }
 
 // Row 7 at its start and at 7465 fen, and the start of row 8; then the starts of lower rows 11 to 14, half an anomaly second late.
-pub fn print_rows() {
+pub fn print_rows(rt: &impl Print) -> io::Result<()> {
     signs::print_signed_line(
+        rt,
         b"Moon, upper row 7 at 0 and 7465 fen, row 8 at 0:",
         &[moon_at(5_040_000), moon_at(5_786_500), moon_at(5_880_000)],
-    );
+    )?;
     signs::print_signed_line(
+        rt,
         b"Moon, lower rows 11 to 14 at 0 fen:",
         &[
             moon_at(19_972_910),
@@ -93,7 +97,7 @@ pub fn print_rows() {
             moon_at(21_652_910),
             moon_at(22_492_910),
         ],
-    );
+    )
 }
 
 fn change_at(second: u64) -> i64 {
@@ -101,8 +105,9 @@ fn change_at(second: u64) -> i64 {
 }
 
 // 7465 fen of lower row 7 fall between two anomaly seconds.
-pub fn print_changes() {
+pub fn print_changes(rt: &impl Print) -> io::Result<()> {
     signs::print_signed_line(
+        rt,
         b"Moon's change in a day, upper row 7 just before and at 7465 fen, row 14 at 0, then lower row 7 on both sides of 7465, row 14 at 0:",
         &[
             change_at(5_786_499),
@@ -112,5 +117,5 @@ pub fn print_changes() {
             change_at(17_359_410),
             change_at(22_492_910),
         ],
-    );
+    )
 }

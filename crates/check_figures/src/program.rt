@@ -1,11 +1,14 @@
 // What the program `year` prints, and lines of eclipses and instants.
+use std::io;
 
-pub fn print_program() {
+pub fn print_program(rt: &impl Print) -> io::Result<()> {
     check_print::print_answers(
+        rt,
         b"1 1522\n|000000001 000000821\n|3 1522\n1 1522\n|1 1522|1 0000001522\n|",
-    );
-    check_print::print_eclipses(1, 824);
-    check_print::print_eclipses(1, 1522);
-    check_print::print_instants(1, 1522);
-    check_print::print_instants(2, 643);
+    )?;
+    check_print::print_eclipses(rt, 1, 824)?;
+    check_print::print_eclipses(rt, 1, 1522)?;
+    check_print::print_instants(rt, 1, 1522)?;
+    check_print::print_instants(rt, 2, 643)?;
+    Ok(())
 }

@@ -1,6 +1,7 @@
 // The work and its edges, roundings and units.
 use crate::signs;
 use months_rules::Calendar;
+use std::io;
 use units::{Byo, Fen};
 
 fn year_refusal(calendar: u64, year: u64) -> u64 {
@@ -8,10 +9,11 @@ fn year_refusal(calendar: u64, year: u64) -> u64 {
     answer.refusal as u64
 }
 
-pub fn print_calendars() {
+pub fn print_calendars(rt: &impl Print) -> io::Result<()> {
     let senmyo = months_rules::numbers_of(Calendar::Senmyo);
     let genka = months_rules::numbers_of(Calendar::Genka);
     check_print::print_filled(
+        rt,
         b"Senmyo, first and last year, whole days of day 0: # # #\n\
           Genka: # # #\n",
         &[
@@ -22,11 +24,12 @@ pub fn print_calendars() {
             genka.last_year as u64,
             genka.day_zero,
         ],
-    );
+    )
 }
 
-pub fn print_edges() {
+pub fn print_edges(rt: &impl Print) -> io::Result<()> {
     check_print::print_filled(
+        rt,
         b"Senmyo, 821, 822, 1684 and 1685: # # # #\n\
           Genka, 444, 445, 697 and 698: # # # #\n\
           cycle of days 0, 10 and 11: # # #\n",
@@ -43,11 +46,12 @@ pub fn print_edges() {
             calendar::cycle_of(10) as u64,
             calendar::cycle_of(11) as u64,
         ],
-    );
+    )
 }
 
-pub fn print_roundings() {
+pub fn print_roundings(rt: &impl Print) -> io::Result<()> {
     signs::print_signed_line(
+        rt,
         b"3/2, 1/2, -1/2 and -3/2, rounded:",
         &[
             numbers::nearest_of(3, 2),
@@ -55,15 +59,17 @@ pub fn print_roundings() {
             numbers::nearest_of(-1, 2),
             numbers::nearest_of(-3, 2),
         ],
-    );
+    )?;
     signs::print_signed_line(
+        rt,
         b"3/2 and -3/2, floors:",
         &[numbers::floor_of(3, 2), numbers::floor_of(-3, 2)],
-    );
+    )
 }
 
-pub fn print_units() {
+pub fn print_units(rt: &impl Print) -> io::Result<()> {
     check_print::print_filled(
+        rt,
         b"a fen in byo, 8 byo in anomaly seconds, 15 byo in fen: # # #\n\
           8399 and 8400 fen, days and fen of the day: # # # #\n",
         &[
@@ -75,5 +81,5 @@ pub fn print_units() {
             units::whole_days(Fen(8400)),
             units::fen_of_day(Fen(8400)).0,
         ],
-    );
+    )
 }

@@ -1,4 +1,6 @@
 // Prints what the calls answer, section by section, each under its heading: at every covered year, and at inputs that show the refusals.
+#![tactic(auto)]
+
 mod eclipses;
 mod instants;
 mod records;
@@ -6,17 +8,23 @@ mod replies;
 mod runs;
 mod years;
 
-fn main() {
-    check_print::print_text(b"replies\n");
-    replies::print_replies();
-    check_print::print_text(b"years\n");
-    years::print_years();
-    check_print::print_text(b"eclipses\n");
-    eclipses::print_eclipses();
-    check_print::print_text(b"instants\n");
-    instants::print_instants();
-    check_print::print_text(b"records\n");
-    records::print_records();
-    check_print::print_text(b"runs\n");
-    runs::print_runs();
+use std::io;
+
+fn main(rt: HostRuntime) -> io::Result<()> {
+    print_all(&rt)
+}
+
+fn print_all(rt: &impl Print) -> io::Result<()> {
+    check_print::print_text(rt, b"replies\n")?;
+    replies::print_replies(rt)?;
+    check_print::print_text(rt, b"years\n")?;
+    years::print_years(rt)?;
+    check_print::print_text(rt, b"eclipses\n")?;
+    eclipses::print_eclipses(rt)?;
+    check_print::print_text(rt, b"instants\n")?;
+    instants::print_instants(rt)?;
+    check_print::print_text(rt, b"records\n")?;
+    records::print_records(rt)?;
+    check_print::print_text(rt, b"runs\n")?;
+    runs::print_runs(rt)
 }

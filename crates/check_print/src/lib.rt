@@ -1,14 +1,16 @@
 // What the check programs print besides what `year_print` does. What is proved of it is the refusal that a year's lines answer.
-ghost use Rattle.std.specs.Prelude.{◌≡◌, not, ◌+◌, ◌<◌, ◌≤◌, T, length};
+#![tactic(auto)]
+
+ghost use Rattle.std.specs.Prelude.{◌≡◌, not, ◌+◌, ◌<◌, ◌≤◌, T, length, IfOk};
 ghost use Rattle.std.specs.Float.Ieee.{is_nan};
 ghost use Rattle.year_print.specs.Paper.{year_refusal};
 
 use calendar::{EclipseAnswer, FullMoon, Month, MoonsAnswer, Year};
-use libc::STDOUT_FILENO;
 use senmyo_node::{Grade, Side};
+use std::io;
 
 // What is printed of each month of a year.
-#[derive(Drop)]
+#[derive(Clone, Copy)]
 enum Form {
     Length,
     Eclipse,
@@ -17,93 +19,97 @@ enum Form {
 
 // ---- texts, numbers and bytes
 
-pub fn print_text(text: &[u8]) {
-    io::write_all(STDOUT_FILENO, text);
+pub fn print_text(rt: &impl Print, text: &[u8]) -> io::Result<()> {
+    rt.write_all(text)
 }
 
-fn print_number_at(numbers: &[u64], place: usize) {
+fn print_number_at(rt: &impl Print, numbers: &[u64], place: usize) -> io::Result<()> {
     if place < numbers.len() {
-        year_print::print_number(numbers[place]);
+        year_print::print_number(rt, numbers[place])?;
     }
+    Ok(())
 }
 
 // Prints the numbers from a place on, each after a space.
-fn print_from(numbers: &[u64], first: usize) {
+fn print_from(rt: &impl Print, numbers: &[u64], first: usize) -> io::Result<()> {
     for place in first..numbers.len() {
-        year_print::print_after_space(numbers[place]);
+        year_print::print_after_space(rt, numbers[place])?;
     }
+    Ok(())
 }
 
 // Prints numbers, each after a space.
-pub fn print_after_spaces(numbers: &[u64]) {
-    print_from(numbers, 0);
+pub fn print_after_spaces(rt: &impl Print, numbers: &[u64]) -> io::Result<()> {
+    print_from(rt, numbers, 0)
 }
 
 // Prints numbers with a space between them.
-pub fn print_numbers(numbers: &[u64]) {
-    print_number_at(numbers, 0);
-    print_from(numbers, 1);
+pub fn print_numbers(rt: &impl Print, numbers: &[u64]) -> io::Result<()> {
+    print_number_at(rt, numbers, 0)?;
+    print_from(rt, numbers, 1)
 }
 
 // Prints numbers as a line.
-pub fn print_line(numbers: &[u64]) {
-    print_numbers(numbers);
-    year_print::print_line_end();
+pub fn print_line(rt: &impl Print, numbers: &[u64]) -> io::Result<()> {
+    print_numbers(rt, numbers)?;
+    year_print::print_line_end(rt)
 }
 
-fn print_byte(byte: u8) {
-    io::write_all(STDOUT_FILENO, b" ");
-    io::print_hex(STDOUT_FILENO, byte as u64, 2);
+fn print_byte(rt: &impl Print, byte: u8) -> io::Result<()> {
+    print!(rt; " {byte:02x}")
 }
 
 // Prints bytes, each after a space.
-pub fn print_bytes(bytes: &[u8]) {
+pub fn print_bytes(rt: &impl Print, bytes: &[u8]) -> io::Result<()> {
     for place in 0..bytes.len() {
-        print_byte(bytes[place]);
+        print_byte(rt, bytes[place])?;
     }
+    Ok(())
 }
 
 // Prints a byte of a text, or in place of a `#` the next of the numbers; tells the place of the one that is next then.
-fn print_mark(mark: u8, numbers: &[u64], next: usize) -> usize {
+fn print_mark(rt: &impl Print, mark: u8, numbers: &[u64], next: usize) -> io::Result<usize> {
     if mark != b'#' {
-        io::write_all(STDOUT_FILENO, &[mark]);
-        return next;
+        rt.write_all(&[mark])?;
+        return Ok(next);
     }
     if next < numbers.len() {
-        year_print::print_number(numbers[next]);
-        return next + 1;
+        year_print::print_number(rt, numbers[next])?;
+        return Ok(next + 1);
     }
-    next
+    Ok(next)
 }
 
 // Prints a text with a number for each `#`.
-pub fn print_filled(text: &[u8], numbers: &[u64]) {
+pub fn print_filled(rt: &impl Print, text: &[u8], numbers: &[u64]) -> io::Result<()> {
     let mut next = 0;
     for place in 0..text.len() {
-        next = print_mark(text[place], numbers, next);
+        next = print_mark(rt, text[place], numbers, next)?;
     }
+    Ok(())
 }
 
 // ---- what is asked for by lines
 
 // Answers an input if it ends at a place; tells where the next one starts.
-fn print_ended(inputs: &[u8], from: usize, end: usize) -> usize
+fn print_ended(rt: &impl Print, inputs: &[u8], from: usize, end: usize) -> io::Result<usize>
     requires { (from ≤ end) × (end < length inputs.now) }
-    ensures { result ≤ end + 1 }
+    ensures { IfOk result (λ next. next ≤ end + 1) }
 {
     if inputs[end] == b'|' {
-        year_print::print_answer(&inputs[from..end]);
-        return end + 1;
+        year_print::print_answer(rt, &inputs[from..end])?;
+        return Ok(end + 1);
     }
-    from
+    Ok(from)
 }
 
 // Prints what the program `year` answers to each of some inputs, behind each of which stands a `|`.
-pub fn print_answers(inputs: &[u8]) {
+pub fn print_answers(rt: &impl Print, inputs: &[u8]) -> io::Result<()> {
     let mut from = 0;
     for end in 0..inputs.len() {
-        from = print_ended(inputs, from, end);
+        from = print_ended(rt, inputs, from, end)?;
     }
+    Ok(())
 }
 
 // ---- the months of a year
@@ -116,6 +122,7 @@ fn side_number(side: Side) -> u64 {
 }
 
 fn print_eclipsed(
+    rt: &impl Print,
     number: u64,
     month: Month,
     moon: FullMoon,
@@ -123,33 +130,37 @@ fn print_eclipsed(
     parts: u64,
     remainder: u64,
     strong: bool,
-) {
+) -> io::Result<()> {
     let side = moon.side;
-    print_line(&[
-        number,
-        month.number as u64,
-        month.leap as u64,
-        moon.day as u64,
-        moon.fen.0,
-        side_number(side),
-        moon.distance.0,
-        kind,
-        parts,
-        remainder,
-        strong as u64,
-    ]);
+    print_line(
+        rt,
+        &[
+            number,
+            month.number as u64,
+            month.leap as u64,
+            moon.day as u64,
+            moon.fen.0,
+            side_number(side),
+            moon.distance.0,
+            kind,
+            parts,
+            remainder,
+            strong as u64,
+        ],
+    )
 }
 
 // A line for a full moon that is eclipsed.
-fn print_eclipse(calendar: u64, number: u64, month: Month) {
+fn print_eclipse(rt: &impl Print, calendar: u64, number: u64, month: Month) -> io::Result<()> {
     let answer = calendar::eclipse_of(calendar, number, month.number as u64, month.leap);
     let EclipseAnswer::FullMoon(moon, grade) = answer else {
-        return;
+        return Ok(());
     };
     match grade {
-        Grade::None => {}
-        Grade::Total => print_eclipsed(number, month, moon, 1, 15, 0, false),
+        Grade::None => Ok(()),
+        Grade::Total => print_eclipsed(rt, number, month, moon, 1, 15, 0, false),
         Grade::Partial(share) => print_eclipsed(
+            rt,
             number,
             month,
             moon,
@@ -162,83 +173,99 @@ fn print_eclipse(calendar: u64, number: u64, month: Month) {
 }
 
 // The eight bytes of a floating number.
-fn print_float(x: f64)
+fn print_float(rt: &impl Print, x: f64) -> io::Result<()>
     requires { T (not (is_nan x)) }
 {
-    io::write_all(STDOUT_FILENO, b" ");
-    io::print_hex(STDOUT_FILENO, f64::to_bits(x), 16);
+    let bits = f64::to_bits(x);
+    print!(rt; " {bits:016x}")
 }
 
-fn print_instants_of(calendar: u64, number: u64, month: Month) {
+fn print_instants_of(rt: &impl Print, calendar: u64, number: u64, month: Month) -> io::Result<()> {
     let answer = calendar::moons_of(calendar, number, month.number as u64, month.leap);
     let MoonsAnswer::Both(moons) = answer else {
-        return;
+        return Ok(());
     };
-    print_numbers(&[calendar, number, month.number as u64, month.leap as u64]);
-    print_float(moons.new);
-    print_float(moons.full);
-    year_print::print_line_end();
+    print_numbers(
+        rt,
+        &[calendar, number, month.number as u64, month.leap as u64],
+    )?;
+    print_float(rt, moons.new)?;
+    print_float(rt, moons.full)?;
+    year_print::print_line_end(rt)
 }
 
-fn print_month_as(calendar: u64, number: u64, month: Month, form: Form) {
+fn print_month_as(
+    rt: &impl Print,
+    calendar: u64,
+    number: u64,
+    month: Month,
+    form: Form,
+) -> io::Result<()> {
     match form {
-        Form::Length => year_print::print_after_space(month.length as u64),
-        Form::Eclipse => print_eclipse(calendar, number, month),
-        Form::Instants => print_instants_of(calendar, number, month),
+        Form::Length => year_print::print_after_space(rt, month.length as u64),
+        Form::Eclipse => print_eclipse(rt, calendar, number, month),
+        Form::Instants => print_instants_of(rt, calendar, number, month),
     }
 }
 
-fn print_months(calendar: u64, number: u64, year: Year, form: Form) {
+fn print_months(
+    rt: &impl Print,
+    calendar: u64,
+    number: u64,
+    year: Year,
+    form: Form,
+) -> io::Result<()> {
     let months = year.months;
     for place in 0..13usize {
         if place < year.count as usize {
-            print_month_as(calendar, number, months[place], form);
+            print_month_as(rt, calendar, number, months[place], form)?;
         }
     }
+    Ok(())
 }
 
-fn print_first_day(month: Month) {
-    year_print::print_after_space(month.first_day as u64);
+fn print_first_day(rt: &impl Print, month: Month) -> io::Result<()> {
+    year_print::print_after_space(rt, month.first_day as u64)
 }
 
 // Prints a year on one line: the head, the first day and the months' lengths. Of a year that is refused, nothing.
-pub fn print_summary(calendar: u64, number: u64) -> u8
-    ensures { result ≡ year_refusal calendar number }
+pub fn print_summary(rt: &impl Print, calendar: u64, number: u64) -> io::Result<u8>
+    ensures { IfOk result (λ refusal. refusal ≡ year_refusal calendar number) }
 {
     let answer = calendar::year_of(calendar, number);
     if answer.refusal == 0 {
         let year = answer.year;
         let months = year.months;
-        year_print::print_head(calendar, number, year);
-        print_first_day(months[0]);
-        print_months(calendar, number, year, Form::Length);
-        year_print::print_line_end();
+        year_print::print_head(rt, calendar, number, year)?;
+        print_first_day(rt, months[0])?;
+        print_months(rt, calendar, number, year, Form::Length)?;
+        year_print::print_line_end(rt)?;
     }
-    answer.refusal
+    Ok(answer.refusal)
 }
 
 // Prints what a form says of each month of a year. Of a year that is refused, nothing.
-fn print_each(calendar: u64, number: u64, form: Form) -> u8
-    ensures { result ≡ year_refusal calendar number }
+fn print_each(rt: &impl Print, calendar: u64, number: u64, form: Form) -> io::Result<u8>
+    ensures { IfOk result (λ refusal. refusal ≡ year_refusal calendar number) }
 {
     let answer = calendar::year_of(calendar, number);
     if answer.refusal == 0 {
-        print_months(calendar, number, answer.year, form);
+        print_months(rt, calendar, number, answer.year, form)?;
     }
-    answer.refusal
+    Ok(answer.refusal)
 }
 
 // Prints a line for each month of a year whose full moon is eclipsed: year, month, leap, day, fen, side (0 yang, 1 yin), distance,
 // kind (1 total, 2 partial), parts, remainder, and strong or not.
-pub fn print_eclipses(calendar: u64, number: u64) -> u8
-    ensures { result ≡ year_refusal calendar number }
+pub fn print_eclipses(rt: &impl Print, calendar: u64, number: u64) -> io::Result<u8>
+    ensures { IfOk result (λ refusal. refusal ≡ year_refusal calendar number) }
 {
-    print_each(calendar, number, Form::Eclipse)
+    print_each(rt, calendar, number, Form::Eclipse)
 }
 
 // Prints a line for each month of a year: calendar, year, month, leap, and the bytes of its new and of its full moon.
-pub fn print_instants(calendar: u64, number: u64) -> u8
-    ensures { result ≡ year_refusal calendar number }
+pub fn print_instants(rt: &impl Print, calendar: u64, number: u64) -> io::Result<u8>
+    ensures { IfOk result (λ refusal. refusal ≡ year_refusal calendar number) }
 {
-    print_each(calendar, number, Form::Instants)
+    print_each(rt, calendar, number, Form::Instants)
 }

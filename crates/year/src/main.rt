@@ -1,43 +1,39 @@
 // Prints the months of the year that the first line of standard input asks for, or the refusal.
-ghost use Rattle.io.specs.Counts.{IsPrefixLen};
+#![tactic(auto)]
 
-use libc::STDIN_FILENO;
+ghost use Rattle.std.specs.Prelude.{◌≤◌, length, IfOk};
 
-// A byte of the input, or its end.
-#[derive(Drop)]
-enum Read {
-    Byte(u8),
-    End,
-}
+use std::io;
+use std::io::Read;
 
-fn read_byte() -> Read {
+// A byte of the input, or none at its end.
+fn read_byte(input: &mut impl Read) -> io::Result<Option<u8>> {
     let mut byte = [0u8; 1];
-    if io::read_full(STDIN_FILENO, &mut byte) == 0 {
-        return Read::End;
+    if input.read(&mut byte)? == 0 {
+        return Ok(None);
     }
-    Read::Byte(byte[0])
+    Ok(Some(byte[0]))
 }
 
 // Reads until a line feed, or the end of the input or of the buffer: a line is answered as soon as it is there.
-fn read_line(buffer: &mut [u8]) -> usize
-    ensures { IsPrefixLen result buffer.new }
+fn read_line(input: &mut impl Read, buffer: &mut [u8]) -> io::Result<usize>
+    ensures { IfOk result (λ read. read ≤ length buffer.new) }
 {
-    let mut read: usize = 0;
-    while read < buffer.len() {
-        let Read::Byte(byte) = read_byte() else {
-            return read;
+    for read in 0..buffer.len() {
+        let Some(byte) = read_byte(input)? else {
+            return Ok(read);
         };
         buffer[read] = byte;
-        read += 1;
         if byte == b'\n' {
-            return read;
+            return Ok(read + 1);
         }
     }
-    read
+    Ok(buffer.len())
 }
 
-fn main() {
+fn main(rt: HostRuntime) -> io::Result<()> {
     let mut buffer = [0u8; 20];
-    let read = read_line(&mut buffer);
-    year_print::print_answer(&buffer[..read]);
+    let read = read_line(&mut rt.stdin(), &mut buffer)?;
+    year_print::print_answer(&rt, &buffer[..read])?;
+    Ok(())
 }

@@ -2,4 +2,5 @@ pub mod Cuts
 pub mod Digits
 pub mod Laws
 pub mod Figures
+pub mod Passed
 pub mod OneAnswer

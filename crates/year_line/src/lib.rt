@@ -1,29 +1,31 @@
+#![tactic(auto)]
+
 ghost use Rattle.std.specs.Prelude.{◌≡◌};
 ghost use Rattle.year_line.specs.Line.{is_digit, means, numbers_of, line_of};
 ghost use Rattle.year_line.specs.Room.{FirstPlace, NumberIn};
 
 // What a line asks for.
-#[derive(Drop)]
+#[derive(Clone, Copy)]
 pub struct Line {
     pub calendar: u32,
     pub year: u32,
 }
 
-#[derive(Drop)]
+#[derive(Clone, Copy)]
 pub enum LineAnswer {
     Line(Line),
     Refused(u8),
 }
 
 // Where a byte stands first.
-#[derive(Drop)]
+#[derive(Clone, Copy)]
 enum Place {
     At(usize),
     Nowhere,
 }
 
 // The number that some bytes are, if they are one.
-#[derive(Drop)]
+#[derive(Clone, Copy)]
 enum Number {
     Of(u32),
     NotOne,
@@ -50,6 +52,7 @@ fn place_of(stop: u8, bytes: &[u8]) -> Place
     Place::Nowhere
 }
 
+#[tactic(auto, using(crate::proofs::Passed::too_few, crate::proofs::Passed::too_many))]
 fn number_of(bytes: &[u8]) -> Number
     ensures { NumberIn bytes.now result }
 {

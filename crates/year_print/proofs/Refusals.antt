@@ -12,8 +12,9 @@ use Rattle.calendar_year.specs.declared.YearAnswer.{YearAnswer}
 use Rattle.calendar_year.specs.Years.{year_in, year_of}
 use Rattle.calendar_year.specs.Answers.{year_answer}
 use Rattle.calendar_year.proofs.Refusals.{year_number}
+use Rattle.year_line.specs.declared.Line.{Line}
 use Rattle.year_line.specs.Line.{line_in, line_of, LineAnd, NoLine}
-use Rattle.year_print.specs.Paper.{answer_conditions, answer_of, year_refusal}
+use Rattle.year_print.specs.Paper.{answer_conditions, answer_of, answer_refusal, year_refusal}
 
 module _ (bytes : List ℕ) where
   abbrev calendar : ℕ
@@ -48,3 +49,13 @@ module _ (bytes : List ℕ) where
 pub year_told : (calendar year : ℕ) (x : YearAnswer) → x ≡ year_answer (year_of calendar year) → x.refusal ≡ year_refusal calendar year
 unfolding year_refusal
 year_told calendar year x e = ap (λ (x : YearAnswer). x.refusal) e ∙ year_number (year_of calendar year)
+
+-- what is refused of a line's year is refused of the bytes that the line stands in ..
+pub line_told : (bytes : List ℕ) (line : Line) → given line ≡ line_of bytes → year_refusal line.calendar line.year ≡ answer_refusal bytes
+unfolding year_refusal answer_refusal
+line_told bytes line e = rw (answer_asked, ← e)
+
+-- .. and so is what is refused of the line
+pub no_line_told : (bytes : List ℕ) (n : ℕ) → refused n ≡ line_of bytes → n ≡ answer_refusal bytes
+unfolding answer_refusal
+no_line_told bytes n e = rw (answer_asked, ← e)

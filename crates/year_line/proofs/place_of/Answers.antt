@@ -2,17 +2,15 @@
 use mathlib.Core.Path.{◌≡◌, refl, sym}
 use mathlib.Core.Bool.{false}
 use mathlib.Core.List.{List, ◌∷◌, ◌++◌}
-use Prim.Native.Nat.{ℕ, suc, ◌+◌, ◌-◌, ◌<◌}
+use Prim.Native.Nat.{ℕ, suc, ◌+◌, ◌<◌}
 use native.Mathlib.Numerals.{add-one}
-use borrow.Author.Rules.{rules}
 use borrow.Author.Tests.{ne_eqb}
 use lib.ListN.{length, get_or, take, drop}
 use lib.Seq.{split_at, take-suc, take_all}
 use Rattle.year_line.specs.Line.{has}
 use Rattle.year_line.specs.Room.{Stands}
 use Rattle.year_line.proofs.Cuts.{has_joined, Cut, cut_at}
-use Rattle.year_line.proofs.place_of.Statement.{statement}
-use Rattle.year_line.proofs.place_of.Tie as Tie
+use Rattle.year_line.proofs.place_of.Goals as goal
 
 module _ (stop : ℕ) (bytes : List ℕ) (place : ℕ) (none : has stop (take place bytes) ≡ false) where
   here : place < length bytes → get_or bytes place 0 ≡ stop → Stands stop bytes place
@@ -27,26 +25,15 @@ module _ (stop : ℕ) (bytes : List ℕ) (place : ℕ) (none : has stop (take pl
   unfolding has
   passed inside other = rw (add-one, take-suc bytes place 0, has_joined, none, ne_eqb (get_or bytes place 0) stop other)
 
-abbrev invariant_loop : Tie.invariant-loop
-invariant_loop stop bytes place₀ place = has stop (take place bytes) ≡ false
-
-abbrev decreases_loop : Tie.decreases-loop
-decreases_loop stop bytes place₀ place = length bytes - place
-
-loop_holds : Tie.Need-loop-init invariant_loop decreases_loop
+pub loop-place-init : goal.loop-place-init
 unfolding has
-loop_holds c = refl
+loop-place-init c = refl
 
-pub place_of_spec : {M : Type 1} → statement M
-place_of_spec =
-    Tie.close
-    (Tie.spec
-    invariant_loop
-    decreases_loop
-    loop_holds
-    (λ c. search rules)
-    (λ c. here _ _ _ c.before.before.before.loop.invariant c.before.before.loop_test.true c.if1.true)
-    (λ c. search rules)
-    (λ c. search rules)
-    (λ c. passed _ _ _ c.before.before.before.loop.invariant c.before.before.loop_test.true c.if1.false)
-    (λ c. rw (take_all _ _ c.loop_test.false) at c.before.loop.invariant))
+pub returns-then-bytes-place : goal.returns-then-bytes-place
+returns-then-bytes-place c = here _ _ _ c.loop-place.invariant c.loop-place-test.true c.if-bytes-place.true
+
+pub loop-place-preserved : goal.loop-place-preserved
+loop-place-preserved c = passed _ _ _ c.loop-place.invariant c.loop-place-test.true c.if-bytes-place.false
+
+pub returns : goal.returns
+returns c = rw (take_all _ _ c.loop-place-test.false) at c.loop-place.invariant
