@@ -1,4 +1,4 @@
--- What each exported call promises leaves one answer, and one run in the memory that it was lent.
+-- What each call promises leaves one answer, and one run in the memory that it was lent.
 use mathlib.Core.Path.{ap}
 use Rattle.numbers.specs.OneResult.{OneResult, OneContent}
 use Rattle.numbers.proofs.OneResult.{one}

@@ -1,4 +1,6 @@
-// Calls on a run, for the benchmark to time: it holds the run's numbers, and lends them.
+// Calls on a run, for the benchmark to time: it holds the run's numbers, and lends them. `bench_run_c` exports them.
+#![tactic(auto)]
+
 ghost use Rattle.std.specs.Prelude.{◌≡◌};
 ghost use Rattle.run.specs.Calls.{run_date_of};
 ghost use Rattle.bench_run.specs.Timed.{held_run, answered, changed, told_in};
@@ -7,8 +9,7 @@ use calendar_date::DateAnswer;
 use run::Run;
 
 // The date of a day in a run, as one number, or the refusal's number.
-#[unsafe(no_mangle)]
-pub extern "C" fn timed_date(
+pub fn timed_date(
     calendar: u8,
     first_year: u16,
     years: u8,
@@ -36,8 +37,7 @@ pub extern "C" fn timed_date(
 }
 
 // Extends a run, or drops its oldest year. Answers the refusal's number, or 0.
-#[unsafe(no_mangle)]
-pub extern "C" fn timed_change(
+pub fn timed_change(
     drop: u8,
     calendar: &mut u8,
     first_year: &mut u16,

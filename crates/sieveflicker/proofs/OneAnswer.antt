@@ -1,4 +1,4 @@
--- What each exported call promises leaves one answer, and one content of the memory that it was lent.
+-- What each call promises leaves one answer, and one content of the memory that it was lent.
 use Rattle.numbers.specs.OneResult.{OneResult, OneContent}
 use Rattle.numbers.proofs.OneResult.{one}
 use Rattle.sieveflicker.proofs.sf_day.Reads as sf_day

@@ -1,4 +1,7 @@
-// The calls for programs in C and Rust. Each passes on what the call behind it answers, as numbers.
+// The calls for programs in C and Rust, as functions. Each passes on what the call behind it answers, as numbers;
+// `sieveflicker_c` exports it.
+#![tactic(auto)]
+
 ghost use Rattle.std.specs.Prelude.{◌≡◌};
 ghost use Rattle.answers.specs.Answer.{refusal_in, left_in};
 ghost use Rattle.record.specs.Record.{write_of};
@@ -7,8 +10,7 @@ ghost use Rattle.sieveflicker.specs.Exported.{day_number_of, date_number_of, yea
 use calendar::{DateAnswer, DayAnswer, EclipseAnswer, HoursAnswer, MoonsAnswer};
 
 // The day number of a date, or the refusal's number.
-#[unsafe(no_mangle)]
-pub extern "C" fn sf_day(calendar: u64, year: u64, month: u64, leap: u64, day: u64) -> u64
+pub fn sf_day(calendar: u64, year: u64, month: u64, leap: u64, day: u64) -> u64
     ensures { result ≡ day_number_of calendar year month leap day }
 {
     match calendar::day_of(calendar, year, month, leap != 0, day) {
@@ -18,8 +20,7 @@ pub extern "C" fn sf_day(calendar: u64, year: u64, month: u64, leap: u64, day: u
 }
 
 // The date of a day number, as one number, or the refusal's number.
-#[unsafe(no_mangle)]
-pub extern "C" fn sf_date(calendar: u64, day: u64) -> u64
+pub fn sf_date(calendar: u64, day: u64) -> u64
     ensures { result ≡ date_number_of calendar day }
 {
     match calendar::date_of(calendar, day) {
@@ -29,8 +30,7 @@ pub extern "C" fn sf_date(calendar: u64, day: u64) -> u64
 }
 
 // Writes the 55 numbers of a year. Answers the refusal's number, or 0.
-#[unsafe(no_mangle)]
-pub extern "C" fn sf_year(calendar: u64, year: u64, out: &mut [u32]) -> u8
+pub fn sf_year(calendar: u64, year: u64, out: &mut [u32]) -> u8
     ensures refusal { result ≡ refusal_in (year_written calendar year out.old) }
     ensures left { out.new ≡ left_in out.old (year_written calendar year out.old) }
 {
@@ -46,8 +46,7 @@ pub extern "C" fn sf_year(calendar: u64, year: u64, out: &mut [u32]) -> u8
 }
 
 // Writes the 8 numbers of a month's eclipse. Answers the refusal's number, or 0.
-#[unsafe(no_mangle)]
-pub extern "C" fn sf_eclipse(calendar: u64, year: u64, month: u64, leap: u64, out: &mut [u32]) -> u8
+pub fn sf_eclipse(calendar: u64, year: u64, month: u64, leap: u64, out: &mut [u32]) -> u8
     ensures refusal { result ≡ refusal_in (eclipse_written calendar year month leap out.old) }
     ensures left { out.new ≡ left_in out.old (eclipse_written calendar year month leap out.old) }
 {
@@ -65,8 +64,7 @@ pub extern "C" fn sf_eclipse(calendar: u64, year: u64, month: u64, leap: u64, ou
 }
 
 // Writes the 12 numbers of the hours of a month's eclipse. Answers the refusal's number, or 0.
-#[unsafe(no_mangle)]
-pub extern "C" fn sf_hours(calendar: u64, year: u64, month: u64, leap: u64, out: &mut [u32]) -> u8
+pub fn sf_hours(calendar: u64, year: u64, month: u64, leap: u64, out: &mut [u32]) -> u8
     ensures refusal { result ≡ refusal_in (hours_written calendar year month leap out.old) }
     ensures left { out.new ≡ left_in out.old (hours_written calendar year month leap out.old) }
 {
@@ -83,8 +81,7 @@ pub extern "C" fn sf_hours(calendar: u64, year: u64, month: u64, leap: u64, out:
 }
 
 // Writes the Julian dates of a month's new and full moon. Answers the refusal's number, or 0.
-#[unsafe(no_mangle)]
-pub extern "C" fn sf_moons(calendar: u64, year: u64, month: u64, leap: u64, out: &mut [f64]) -> u8
+pub fn sf_moons(calendar: u64, year: u64, month: u64, leap: u64, out: &mut [f64]) -> u8
     ensures refusal { result ≡ refusal_in (moons_written calendar year month leap out.old) }
     ensures left { out.new ≡ left_in out.old (moons_written calendar year month leap out.old) }
 {
@@ -101,8 +98,7 @@ pub extern "C" fn sf_moons(calendar: u64, year: u64, month: u64, leap: u64, out:
 }
 
 // Writes the 25 bytes of a year's record. Answers the refusal's number, or 0.
-#[unsafe(no_mangle)]
-pub extern "C" fn sf_write_record(calendar: u64, year: u64, buffer: &mut [u8]) -> u8
+pub fn sf_write_record(calendar: u64, year: u64, buffer: &mut [u8]) -> u8
     ensures refusal { result ≡ refusal_in (write_of calendar year buffer.old) }
     ensures left { buffer.new ≡ left_in buffer.old (write_of calendar year buffer.old) }
 {
@@ -110,8 +106,7 @@ pub extern "C" fn sf_write_record(calendar: u64, year: u64, buffer: &mut [u8]) -
 }
 
 // Writes the 5 numbers of a record that is the rule's own. Answers the refusal's number, or 0.
-#[unsafe(no_mangle)]
-pub extern "C" fn sf_read_record(bytes: &[u8], out: &mut [u32]) -> u8
+pub fn sf_read_record(bytes: &[u8], out: &mut [u32]) -> u8
     ensures refusal { result ≡ refusal_in (fields_written bytes.now out.old) }
     ensures left { out.new ≡ left_in out.old (fields_written bytes.now out.old) }
 {

@@ -1,4 +1,6 @@
 // An answer as numbers, put into memory that was lent.
+#![tactic(auto)]
+
 ghost use Rattle.std.specs.Prelude.{◌≡◌, [], ◌∷◌, ◌+◌, ◌≤◌, length};
 ghost use Rattle.std.proofs.lemmas.List.Edits.{sets};
 ghost use Rattle.senmyo_node.specs.Answers.{grade_means};

@@ -1,0 +1,42 @@
+// The exported calls on a run, for the benchmark to time. Each is the function of `bench_run` of its name, with the same clauses.
+#![tactic(auto)]
+
+ghost use Rattle.std.specs.Prelude.{◌≡◌};
+ghost use Rattle.run.specs.Calls.{run_date_of};
+ghost use Rattle.bench_run.specs.Timed.{held_run, answered, changed, told_in};
+
+// The date of a day in a run, as one number, or the refusal's number.
+#[unsafe(no_mangle)]
+pub extern "C" fn timed_date(
+    calendar: u8,
+    first_year: u16,
+    years: u8,
+    count: u8,
+    first_days: &[u32; 174],
+    last_dates: &[u32; 174],
+    day: u64,
+) -> u64
+    ensures { result ≡ told_in (run_date_of (held_run calendar first_year years count first_days.now last_dates.now) day) }
+{
+    bench_run::timed_date(
+        calendar, first_year, years, count, first_days, last_dates, day,
+    )
+}
+
+// Extends a run, or drops its oldest year. Answers the refusal's number, or 0.
+#[unsafe(no_mangle)]
+pub extern "C" fn timed_change(
+    drop: u8,
+    calendar: &mut u8,
+    first_year: &mut u16,
+    years: &mut u8,
+    count: &mut u8,
+    first_days: &mut [u32; 174],
+    last_dates: &mut [u32; 174],
+) -> u8
+    ensures { answered result (held_run calendar.new first_year.new years.new count.new first_days.new last_dates.new) ≡ changed drop (held_run calendar.old first_year.old years.old count.old first_days.old last_dates.old) }
+{
+    bench_run::timed_change(
+        drop, calendar, first_year, years, count, first_days, last_dates,
+    )
+}
