@@ -3,3 +3,4 @@ pub mod Refusals
 pub mod History
 pub mod OneAnswer
 pub mod Limits
+pub mod LookedUp

@@ -85,6 +85,7 @@ pub fn run_date_of(run: Run, day: u64) -> DateAnswer
 }
 
 // The day of a date, looked up in a run.
+#[tactic(auto, using(crate::proofs::LookedUp::looked_up, crate::proofs::LookedUp::not_looked_up))]
 pub fn run_day_of(run: Run, year: u64, month: u64, leap: bool, day: u64) -> DayAnswer
     ensures { day_means result ≡ run_day_of run year month leap day }
 {
