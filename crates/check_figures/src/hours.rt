@@ -35,8 +35,8 @@ fn print_hours_of(
     year_print::print_line_end(rt)
 }
 
-pub fn print_hours(rt: &impl Print) -> io::Result<()> {
-    print_hours_of(rt, b"the worked case", 1522, 2, false)?;
+// In rows 7 and 14 of either half of the Moon's table.
+fn print_in_rows(rt: &impl Print) -> io::Result<()> {
     print_hours_of(
         rt,
         b"lower row 14, total, from the day before",
@@ -60,7 +60,12 @@ pub fn print_hours(rt: &impl Print) -> io::Result<()> {
         9,
         false,
     )?;
-    print_hours_of(rt, b"lower row 7 past 7465", 1171, 6, false)?;
+    print_hours_of(rt, b"lower row 7 past 7465", 1171, 6, false)
+}
+
+pub fn print_hours(rt: &impl Print) -> io::Result<()> {
+    print_hours_of(rt, b"the worked case", 1522, 2, false)?;
+    print_in_rows(rt)?;
     print_hours_of(rt, b"14 parts weak, from the day before", 890, 8, false)?;
     print_hours_of(
         rt,
