@@ -1,8 +1,11 @@
--- An answer is given or refused and not both, and an answer as a struct tells which.
-use mathlib.Core.Path.{◌≡◌, sym, ap, ◌∙◌}
+-- An answer is given or refused and not both, and a `Result` tells one.
+use mathlib.Core.Path.{◌≡◌, refl, sym, ap, ◌∙◌}
 use mathlib.Core.Bool.{false≢true}
 use Prim.Native.Nat.{ℕ}
-use Rattle.answers.specs.Answer.{Answer, given, refused, refusal_in}
+use Rattle.std.specs.Prelude.{List, [], ◌∷◌, get_or, Result, Ok, Err}
+use Rattle.answers.specs.declared.Refusal.{Refusal}
+use Rattle.answers.specs.declared.Refusal.TheVariants.{NoSuchCalendar, YearNotCovered, NoSuchMonth, NoSuchDay, DayNotCovered, WrongSize, WrongTagOrLength, WrongField, RunFull, RunOfOneYear, NoRun, NoLine, EclipseOfGenka, NoEclipse}
+use Rattle.answers.specs.Answer.{Answer, given, refused, number_of, told, told_as}
 
 pub not_given : {A : Type 0} (n : ℕ) (a : A) → refused n ≡ given a → ⊥
 not_given n a e = false≢true cc
@@ -16,15 +19,47 @@ one_given a b e = cc
 pub one_refusal : {A : Type 0} (n m : ℕ) → ◌≡◌ {A = Answer A} (refused n) (refused m) → n ≡ m
 one_refusal n m e = cc
 
--- ---- an answer as a struct: the refusal's number, or 0 and a value
+-- ---- a `Result` tells one answer
 
-module _ {S A : Type 0} (struct : Answer A → S) (number : S → ℕ) (value : S → A) (number_told : (a : Answer A) → number (struct a) ≡ refusal_in a) (value_told : (v : A) → value (struct (given v)) ≡ v) (x : S) where
-  -- its number, where it is not 0, is a refusal's ..
-  pub struct_refused : (a : Answer A) → x ≡ struct a → (number x ≡ 0 → ⊥) → a ≡ refused (number x)
-  struct_refused (given v) e h = absurd (h (ap number e ∙ number_told (given v)))
-  struct_refused (refused n) e h = ap refused (sym (ap number e ∙ number_told (refused n)))
+-- the refusals by number, from 0, which none has
+by_number : List Refusal
+by_number =
+    NoEclipse ∷ NoSuchCalendar ∷ YearNotCovered ∷ NoSuchMonth ∷ NoSuchDay ∷ DayNotCovered ∷ WrongSize ∷ WrongTagOrLength ∷ WrongField ∷ RunFull ∷
+    RunOfOneYear ∷ NoRun ∷ NoLine ∷ EclipseOfGenka ∷ NoEclipse ∷ []
 
-  -- .. and where it is 0, which no refusal has, the value is given
-  pub struct_given : (a : Answer A) → x ≡ struct a → (a ≡ refused 0 → ⊥) → number x ≡ 0 → a ≡ given (value x)
-  struct_given (given v) e none h = ap given (sym (ap value e ∙ value_told v))
-  struct_given (refused n) e none h = absurd (none (ap refused (sym (ap number e ∙ number_told (refused n)) ∙ h)))
+numbered : ℕ → Refusal
+numbered n = get_or by_number n NoEclipse
+
+numbered_number : (r : Refusal) → numbered (number_of r) ≡ r
+unfolding numbered by_number
+numbered_number NoSuchCalendar = refl
+numbered_number YearNotCovered = refl
+numbered_number NoSuchMonth = refl
+numbered_number NoSuchDay = refl
+numbered_number DayNotCovered = refl
+numbered_number WrongSize = refl
+numbered_number WrongTagOrLength = refl
+numbered_number WrongField = refl
+numbered_number RunFull = refl
+numbered_number RunOfOneYear = refl
+numbered_number NoRun = refl
+numbered_number NoLine = refl
+numbered_number EclipseOfGenka = refl
+numbered_number NoEclipse = refl
+
+-- no two refusals have one number
+pub one_number : (r s : Refusal) → number_of r ≡ number_of s → r ≡ s
+one_number r s e = sym (numbered_number r) ∙ ap numbered e ∙ numbered_number s
+
+-- two results that tell the same are one, where what is told of a value tells which it is
+pub one_told_as : {A B : Type 0} (f : A → B) → ((a b : A) → f a ≡ f b → a ≡ b) → (x y : Result A Refusal) → told_as f x ≡ told_as f y → x ≡ y
+one_told_as f one (Ok a) (Ok b) e = ap Ok (one a b (one_given (f a) (f b) e))
+one_told_as f one (Ok a) (Err s) e = absurd (not_refused _ _ e)
+one_told_as f one (Err r) (Ok b) e = absurd (not_given _ _ e)
+one_told_as f one (Err r) (Err s) e = ap Err (one_number r s (one_refusal _ _ e))
+
+pub one_told : {A : Type 0} (x y : Result A Refusal) → told x ≡ told y → x ≡ y
+one_told (Ok a) (Ok b) e = ap Ok (one_given a b e)
+one_told (Ok a) (Err s) e = absurd (not_refused _ _ e)
+one_told (Err r) (Ok b) e = absurd (not_given _ _ e)
+one_told (Err r) (Err s) e = ap Err (one_number r s (one_refusal _ _ e))

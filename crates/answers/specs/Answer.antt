@@ -1,5 +1,7 @@
 -- What a call answers: the thing asked for, or the number of a refusal (01, "Refusal numbers").
-use Rattle.std.specs.Prelude.{ℕ}
+use Rattle.std.specs.Prelude.{ℕ, Result, Ok, Err}
+use Rattle.answers.specs.declared.Refusal.{Refusal}
+use Rattle.answers.specs.declared.Refusal.TheVariants.{NoSuchCalendar, YearNotCovered, NoSuchMonth, NoSuchDay, DayNotCovered, WrongSize, WrongTagOrLength, WrongField, RunFull, RunOfOneYear, NoRun, NoLine, EclipseOfGenka, NoEclipse}
 
 pub data Answer (A : Type 0) : Type 0 where
   given : A → Answer A
@@ -19,3 +21,35 @@ refusal_in (refused n) = n
 abbrev pub left_in : {A : Type 0} → A → Answer A → A
 left_in before (given after) = after
 left_in before (refused n) = before
+
+-- ---- a `Result`, as an answer
+
+abbrev pub number_of : Refusal → ℕ
+number_of NoSuchCalendar = 1
+number_of YearNotCovered = 2
+number_of NoSuchMonth = 3
+number_of NoSuchDay = 4
+number_of DayNotCovered = 5
+number_of WrongSize = 6
+number_of WrongTagOrLength = 7
+number_of WrongField = 8
+number_of RunFull = 9
+number_of RunOfOneYear = 10
+number_of NoRun = 11
+number_of NoLine = 12
+number_of EclipseOfGenka = 13
+number_of NoEclipse = 14
+
+abbrev pub told : {A : Type 0} → Result A Refusal → Answer A
+told (Ok a) = given a
+told (Err refusal) = refused (number_of refusal)
+
+-- .. told of something that comes of what it gives
+abbrev pub told_as : {A B : Type 0} → (A → B) → Result A Refusal → Answer B
+told_as f (Ok a) = given (f a)
+told_as f (Err refusal) = refused (number_of refusal)
+
+-- whether something is given, and no more of it
+abbrev pub done : {A : Type 0} → Answer A → Answer Unit
+done (given a) = given tt
+done (refused n) = refused n

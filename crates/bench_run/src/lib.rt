@@ -2,10 +2,10 @@
 #![tactic(auto)]
 
 ghost use Rattle.std.specs.Prelude.{◌≡◌};
+ghost use Rattle.answers.specs.Answer.{refusal_in, left_in};
 ghost use Rattle.run.specs.Calls.{run_date_of};
-ghost use Rattle.bench_run.specs.Timed.{held_run, answered, changed, told_in};
+ghost use Rattle.bench_run.specs.Timed.{held_run, changed, told_in};
 
-use calendar_date::DateAnswer;
 use run::Run;
 
 // The date of a day in a run, as one number, or the refusal's number.
@@ -20,19 +20,17 @@ pub fn timed_date(
 ) -> u64
     ensures { result ≡ told_in (run_date_of (held_run calendar first_year years count first_days.now last_dates.now) day) }
 {
-    let days = *first_days;
-    let dates = *last_dates;
     let held = Run {
         calendar,
         first_year,
         years,
         count,
-        first_days: days,
-        last_dates: dates,
+        first_days: *first_days,
+        last_dates: *last_dates,
     };
-    match run::run_date_of(held, day) {
-        DateAnswer::Date(date) => calendar_date::date_number(date) as u64,
-        DateAnswer::Refused(number) => number as u64,
+    match run::run_date_of(&held, day) {
+        Ok(date) => u64::from(calendar_date::date_number(date)),
+        Err(refusal) => u64::from(refusal.number()),
     }
 }
 
@@ -46,31 +44,30 @@ pub fn timed_change(
     first_days: &mut [u32; 174],
     last_dates: &mut [u32; 174],
 ) -> u8
-    ensures { answered result (held_run calendar.new first_year.new years.new count.new first_days.new last_dates.new) ≡ changed drop (held_run calendar.old first_year.old years.old count.old first_days.old last_dates.old) }
+    ensures refusal { result ≡ refusal_in (changed drop (held_run calendar.old first_year.old years.old count.old first_days.old last_dates.old)) }
+    ensures left { held_run calendar.new first_year.new years.new count.new first_days.new last_dates.new ≡ left_in (held_run calendar.old first_year.old years.old count.old first_days.old last_dates.old) (changed drop (held_run calendar.old first_year.old years.old count.old first_days.old last_dates.old)) }
 {
-    let days = *first_days;
-    let dates = *last_dates;
-    let held = Run {
+    let mut held = Run {
         calendar: *calendar,
         first_year: *first_year,
         years: *years,
         count: *count,
-        first_days: days,
-        last_dates: dates,
+        first_days: *first_days,
+        last_dates: *last_dates,
     };
-    let answer = if drop == 0 {
-        run::extend_run(held)
+    let moved = if drop == 0 {
+        run::extend_run(&mut held)
     } else {
-        run::drop_oldest(held)
+        run::drop_oldest(&mut held)
     };
-    let after = answer.run;
-    let days_after = after.first_days;
-    let dates_after = after.last_dates;
-    *calendar = after.calendar;
-    *first_year = after.first_year;
-    *years = after.years;
-    *count = after.count;
-    *first_days = days_after;
-    *last_dates = dates_after;
-    answer.refusal
+    *calendar = held.calendar;
+    *first_year = held.first_year;
+    *years = held.years;
+    *count = held.count;
+    *first_days = held.first_days;
+    *last_dates = held.last_dates;
+    match moved {
+        Ok(()) => 0,
+        Err(refusal) => refusal.number(),
+    }
 }

@@ -2,8 +2,9 @@
 #![tactic(auto)]
 
 ghost use Rattle.std.specs.Prelude.{◌≡◌};
+ghost use Rattle.answers.specs.Answer.{refusal_in, left_in};
 ghost use Rattle.run.specs.Calls.{run_date_of};
-ghost use Rattle.bench_run.specs.Timed.{held_run, answered, changed, told_in};
+ghost use Rattle.bench_run.specs.Timed.{held_run, changed, told_in};
 
 // The date of a day in a run, as one number, or the refusal's number.
 #[unsafe(no_mangle)]
@@ -34,7 +35,8 @@ pub extern "C" fn timed_change(
     first_days: &mut [u32; 174],
     last_dates: &mut [u32; 174],
 ) -> u8
-    ensures { answered result (held_run calendar.new first_year.new years.new count.new first_days.new last_dates.new) ≡ changed drop (held_run calendar.old first_year.old years.old count.old first_days.old last_dates.old) }
+    ensures refusal { result ≡ refusal_in (changed drop (held_run calendar.old first_year.old years.old count.old first_days.old last_dates.old)) }
+    ensures left { held_run calendar.new first_year.new years.new count.new first_days.new last_dates.new ≡ left_in (held_run calendar.old first_year.old years.old count.old first_days.old last_dates.old) (changed drop (held_run calendar.old first_year.old years.old count.old first_days.old last_dates.old)) }
 {
     bench_run::timed_change(
         drop, calendar, first_year, years, count, first_days, last_dates,

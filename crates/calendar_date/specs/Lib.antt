@@ -1,3 +1,2 @@
 pub mod Dates
-pub mod Answers
 pub mod Room

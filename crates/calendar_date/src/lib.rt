@@ -2,23 +2,15 @@
 #![tactic(auto)]
 
 ghost use Rattle.std.specs.Prelude.{◌≡◌};
+ghost use Rattle.answers.specs.Answer.{told};
 ghost use Rattle.months_rules.specs.Rules.{rules_of};
 ghost use Rattle.calendar_date.specs.Dates.{day_of, date_in, date_of, cycle, date_number};
-ghost use Rattle.calendar_date.specs.Answers.{day_means, date_means};
 ghost use Rattle.calendar_date.specs.Room.{CoveredDay};
 
-use calendar_month::MonthAsked;
-use calendar_range::CalendarAsked;
+use answers::Refusal;
 use months_rules::Calendar;
 
-// A day number, or the refusal.
-#[derive(Clone, Copy)]
-pub enum DayAnswer {
-    Day(u32),
-    Refused(u8),
-}
-
-#[derive(Clone, Copy)]
+#[derive(Clone, Copy, Debug, PartialEq, Eq)]
 pub struct Date {
     pub year: u16,
     pub month: u8,
@@ -26,21 +18,12 @@ pub struct Date {
     pub day: u8,
 }
 
-#[derive(Clone, Copy)]
-pub enum DateAnswer {
-    Date(Date),
-    Refused(u8),
-}
-
-// The day of a date.
-pub fn day_of(calendar: u64, year: u64, month: u64, leap: bool, day: u64) -> DayAnswer
-    ensures { day_means result ≡ day_of calendar year month leap day }
+// The day number of a date.
+pub fn day_of(calendar: u64, year: u64, month: u64, leap: bool, day: u64) -> Result<u32, Refusal>
+    ensures { told result ≡ day_of calendar year month leap day }
 {
-    let asked = calendar_month::asked_month(calendar, year, month, leap, day);
-    let MonthAsked::Found(known, found) = asked else {
-        return DayAnswer::Refused(calendar_month::month_refusal(asked));
-    };
-    DayAnswer::Day((found.start + day - 1 - months_rules::numbers_of(known).day_zero) as u32)
+    let (calendar, found) = calendar_month::asked_month(calendar, year, month, leap, day)?;
+    Ok((found.start + day - 1 - calendar.numbers().day_zero) as u32)
 }
 
 // The date on a day, told in whole days from the calendar's origin.
@@ -51,29 +34,26 @@ fn date_in(calendar: Calendar, day: u32) -> Date
     let found = months::month_of(calendar, day);
     let last = months::last_term_of(calendar, found);
     Date {
-        year: months_rules::term_year(calendar, last.term),
-        month: months_rules::term_number(calendar, last.term),
+        year: calendar.term_year(last.term),
+        month: calendar.term_number(last.term),
         leap: last.leap,
         day: (day as u64 - found.start + 1) as u8,
     }
 }
 
-// The date of a day.
-pub fn date_of(calendar: u64, day: u64) -> DateAnswer
-    ensures { date_means result ≡ date_of calendar day }
+// The date of a day number.
+pub fn date_of(calendar: u64, day: u64) -> Result<Date, Refusal>
+    ensures { told result ≡ date_of calendar day }
 {
-    let asked = calendar_range::asked_calendar(calendar);
-    let CalendarAsked::Known(known) = asked else {
-        return DateAnswer::Refused(calendar_range::calendar_refusal(asked));
-    };
-    let numbers = months_rules::numbers_of(known);
+    let calendar = Calendar::try_from(calendar)?;
+    let numbers = calendar.numbers();
     if day < numbers.first_day {
-        return DateAnswer::Refused(5);
+        return Err(Refusal::DayNotCovered);
     }
     if numbers.after_last <= day {
-        return DateAnswer::Refused(5);
+        return Err(Refusal::DayNotCovered);
     }
-    DateAnswer::Date(date_in(known, (day + numbers.day_zero) as u32))
+    Ok(date_in(calendar, (day + numbers.day_zero) as u32))
 }
 
 // The place of a day in the cycle of sixty, 0 to 59.
@@ -83,7 +63,8 @@ pub fn cycle_of(day: u64) -> u8
     ((day % 60 + 49) % 60) as u8
 }
 
-// A date as one number: year, month and day side by side, and 100,000,000 more in a leap month.
+// A date as one number: year, month and day side by side, and 100,000,000 more in a leap month. (README names this function, and a `From` would not
+// say which of a date's numbers it is.)
 pub fn date_number(date: Date) -> u32
     ensures { result ≡ date_number date }
 {

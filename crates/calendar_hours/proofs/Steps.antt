@@ -4,11 +4,11 @@ use mathlib.Core.Bool.{Bool}
 use mathlib.Core.List.{[], ◌∷◌}
 use Prim.Native.Nat.{ℕ}
 use native.Mathlib.Omega.{arith}
+use Rattle.std.specs.Prelude.{Some, None}
 use Rattle.answers.specs.Answer.{given, refused, then}
 use Rattle.answers.specs.Conditions.{asking}
 use Rattle.answers.proofs.Conditions.{then_asking}
 use Rattle.senmyo_hours.specs.declared.Times.{Times}
-use Rattle.senmyo_hours.specs.declared.Eclipsed.TheVariants.{At, Not}
 use Rattle.senmyo_hours.specs.Hours.{times_from, times_at, eclipse_at}
 use Rattle.senmyo_hours.proofs.HourLaws.{in_order, not_eclipsed, eclipsed_at}
 use Rattle.months_rules.specs.Rules.{senmyo}
@@ -25,11 +25,11 @@ hours_asked c y m leap = then_asking _ _ (λ k. (has_eclipse k, 14) ∷ []) hour
 
 -- where there is none it is refused, and where there is one its times are told
 module _ (k : ℕ) where
-  pub without_eclipse : eclipse_at k ≡ Not → asking ((has_eclipse k, 14) ∷ []) (hours_in k) ≡ refused 14
+  pub without_eclipse : eclipse_at k ≡ None → asking ((has_eclipse k, 14) ∷ []) (hours_in k) ≡ refused 14
   unfolding asking has_eclipse
   without_eclipse e = ap (λ b. asking ((b, 14) ∷ []) (hours_in k)) (not_eclipsed k e)
 
-  pub with_eclipse : (times : Times) → eclipse_at k ≡ At times → (asking ((has_eclipse k, 14) ∷ []) (hours_in k) ≡ given (hours_from times)) × (times_at k ≡ times)
+  pub with_eclipse : (times : Times) → eclipse_at k ≡ Some times → (asking ((has_eclipse k, 14) ∷ []) (hours_in k) ≡ given (hours_from times)) × (times_at k ≡ times)
   unfolding asking has_eclipse hours_in
   with_eclipse times e =
       let at = eclipsed_at k times e in

@@ -1,17 +1,17 @@
 #![tactic(auto)]
 
 ghost use Rattle.std.specs.Prelude.{◌≡◌};
+ghost use Rattle.answers.specs.Answer.{told};
 ghost use Rattle.calendar_hours.specs.Hours.{hour_at, hours_from, hours_of};
-ghost use Rattle.calendar_hours.specs.Answers.{hours_means};
 ghost use Rattle.calendar_hours.specs.Room.{Numbered, AllNumbered};
 
-use calendar_eclipses::EclipseAsked;
+use answers::Refusal;
 use months_rules::Calendar;
-use senmyo_hours::{Eclipsed, Times};
+use senmyo_hours::Times;
 use units::{Fen, Ke};
 
 // A moment by its day number, the fen of that day, and the ke that it falls in.
-#[derive(Clone, Copy)]
+#[derive(Clone, Copy, Debug, PartialEq, Eq)]
 pub struct Hour {
     pub day: u32,
     pub fen: Fen,
@@ -19,7 +19,7 @@ pub struct Hour {
 }
 
 // How long an eclipse lasts, in fen, and the same as ke and the fen over; its start, middle and end.
-#[derive(Clone, Copy)]
+#[derive(Clone, Copy, Debug, PartialEq, Eq)]
 pub struct Hours {
     pub length: Fen,
     pub ke: Ke,
@@ -29,17 +29,11 @@ pub struct Hours {
     pub end: Hour,
 }
 
-#[derive(Clone, Copy)]
-pub enum HoursAnswer {
-    Hours(Hours),
-    Refused(u8),
-}
-
 fn hour_at(moment: Fen) -> Hour
     requires { Numbered moment }
     ensures { result ≡ hour_at moment }
 {
-    let day_zero = months_rules::numbers_of(Calendar::Senmyo).day_zero;
+    let day_zero = Calendar::Senmyo.numbers().day_zero;
     let day = (units::whole_days(moment) - day_zero) as u32;
     let fen = units::fen_of_day(moment);
     let ke = units::whole_ke(fen);
@@ -67,15 +61,12 @@ fn hours_from(times: Times) -> Hours
 }
 
 // The hours of a month's lunar eclipse.
-pub fn hours_of(calendar: u64, year: u64, month: u64, leap: bool) -> HoursAnswer
-    ensures { hours_means result ≡ hours_of calendar year month leap }
+pub fn hours_of(calendar: u64, year: u64, month: u64, leap: bool) -> Result<Hours, Refusal>
+    ensures { told result ≡ hours_of calendar year month leap }
 {
-    let asked = calendar_eclipses::asked_eclipse(calendar, year, month, leap);
-    let EclipseAsked::Found(found) = asked else {
-        return HoursAnswer::Refused(calendar_eclipses::asked_refusal(asked));
+    let found = calendar_eclipses::asked_eclipse(calendar, year, month, leap)?;
+    let Some(times) = senmyo_hours::eclipse_at(found) else {
+        return Err(Refusal::NoEclipse);
     };
-    let Eclipsed::At(times) = senmyo_hours::eclipse_at(found) else {
-        return HoursAnswer::Refused(14);
-    };
-    HoursAnswer::Hours(hours_from(times))
+    Ok(hours_from(times))
 }

@@ -1,4 +1,3 @@
 pub mod Asked
 pub mod Names
-pub mod Answers
 pub mod Room

@@ -16,10 +16,8 @@ use Rattle.calendar_range.proofs.Covered.{covered_year_told}
 use Rattle.calendar_month.specs.Asked.{month_named}
 use Rattle.calendar_month.proofs.Covered.{name_found, month_covering}
 use Rattle.calendar_moons.specs.declared.Moons.{Moons}
-use Rattle.calendar_moons.specs.declared.Phase.{Phase}
-use Rattle.calendar_moons.specs.declared.Phase.TheVariants.{New, Full}
 use Rattle.calendar_moons.specs.Instants.{instant_in, NearMoment, of_month, new_moon_of, full_moon_of, moons_in, moons_of, BothNumbers}
-use Rattle.calendar_moons.specs.Room.{moment_in, phase_of, Dated}
+use Rattle.calendar_moons.specs.Room.{Phase, New, Full, moment_in, phase_of, Dated}
 use Rattle.calendar_moons.proofs.Moments.{moon_dated}
 use Rattle.calendar_moons.proofs.Refusals.{of_given}
 

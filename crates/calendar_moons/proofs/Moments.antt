@@ -9,10 +9,8 @@ use Rattle.months_rules.specs.declared.Moment.{Moment}
 use Rattle.months_rules.specs.Rules.{Rules, days_at, rules_of}
 use Rattle.months.specs.Room.{Covering}
 use Rattle.months.proofs.Moments.{moon_days, from_start, to_end}
-use Rattle.calendar_moons.specs.declared.Phase.{Phase}
-use Rattle.calendar_moons.specs.declared.Phase.TheVariants.{New, Full}
 use Rattle.calendar_moons.specs.Instants.{ExactNumerator}
-use Rattle.calendar_moons.specs.Room.{moment_in, Dated}
+use Rattle.calendar_moons.specs.Room.{Phase, New, Full, moment_in, Dated}
 
 -- units of a day: some, few, and an even number
 record Units (t : Moment) : Type 0 where

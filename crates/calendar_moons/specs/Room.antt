@@ -4,11 +4,14 @@ use Rattle.answers.specs.Answer.{Answer}
 use Rattle.julian.specs.Room.{Datable}
 use Rattle.months_rules.specs.declared.Moment.{Moment}
 use Rattle.months_rules.specs.Rules.{Rules, days_at}
-use Rattle.calendar_moons.specs.declared.Phase.{Phase}
-use Rattle.calendar_moons.specs.declared.Phase.TheVariants.{New, Full}
 use Rattle.calendar_moons.specs.Instants.{day_number_at, part_at, instant_in, of_month}
 
--- either moon of a month, and what a call answers for it
+-- the two moons of a month
+pub data Phase : Type 0 where
+  New : Phase
+  Full : Phase
+
+-- either of them, and what a call answers for it
 abbrev pub moment_in : Phase → Rules → ℕ → Moment
 moment_in New r k = r.new_moon k
 moment_in Full r k = r.full_moon k

@@ -5,9 +5,9 @@ use native.Mathlib.Numerals.{add-one}
 use Rattle.numbers.proofs.Places.{placed}
 use Rattle.months_rules.specs.Rules.{Rules}
 use Rattle.calendar_year.specs.Years.{listed, no_month, leap_number}
-use Rattle.calendar_year.specs.Room.{listed_at, listing}
+use Rattle.calendar_year.specs.Room.{listed_behind, listing}
 
 -- one more month goes to the next place
-pub next_listed : (r : Rules) (k i : ℕ) → i < 13 → listed_at (listed r (k + i)) i (listing r k i) ≡ listing r k (i + 1)
-unfolding listed_at leap_number
-next_listed r k i h = rw (placed no_month (listed r) k i 13 h, add-one)
+pub next_listed : (r : Rules) (days k i : ℕ) → i < 13 → listed_behind (listed r (k + i)) (listing r days k i) ≡ listing r days k (i + 1)
+unfolding listed_behind leap_number
+next_listed r days k i h = rw (placed no_month (listed r) k i 13 h, add-one)

@@ -1,18 +1,15 @@
 -- When a year is given and when it is refused, exactly (01, "Refusal numbers"): the first condition that fails names the refusal.
-use mathlib.Core.Path.{◌≡◌, refl, sym}
+use mathlib.Core.Path.{◌≡◌, sym}
 use mathlib.Core.Bool.{true, false}
 use Prim.Native.Nat.{ℕ}
 use lib.ListN.{length}
-use Rattle.answers.specs.Answer.{Answer, given, refused, refusal_in}
+use Rattle.answers.specs.Answer.{given, refused}
 use Rattle.answers.specs.Conditions.{AllHold, FirstFails, Exactly}
-use Rattle.answers.proofs.Answers.{struct_refused, struct_given}
-use Rattle.answers.proofs.Conditions.{given_exactly, refused_exactly, never_refused}
+use Rattle.answers.proofs.Conditions.{given_exactly, refused_exactly}
 use Rattle.numbers.proofs.Places.{length_places}
 use Rattle.calendar_range.specs.Range.{is_calendar, rules_for, is_covered, year_conditions}
 use Rattle.calendar_year.specs.declared.Year.{Year}
-use Rattle.calendar_year.specs.declared.YearAnswer.{YearAnswer}
 use Rattle.calendar_year.specs.Years.{listed, no_month, year_in, year_of}
-use Rattle.calendar_year.specs.Answers.{year_answer}
 
 module _ (c y : ℕ) where
   pub year_given : (x : Year) → Exactly (year_of c y ≡ given x) (AllHold (year_conditions c y) × (year_in (rules_for c) y ≡ x))
@@ -28,21 +25,6 @@ module _ (c y : ℕ) where
 
   pub year_refused_2 : Exactly (year_of c y ≡ refused 2) ((is_calendar c ≡ true) × (is_covered (rules_for c) y ≡ false))
   year_refused_2 = year_refused 2
-
--- ---- a year's answer holds its refusal's number, or 0
-
-pub year_number : (a : Answer Year) → (year_answer a).refusal ≡ refusal_in a
-year_number (given y) = refl
-year_number (refused n) = refl
-
--- another number than 0 is the refusal's, and with 0 the year is given
-module _ (c y : ℕ) (x : YearAnswer) (e : x ≡ year_answer (year_of c y)) where
-  pub year_refuses : (x.refusal ≡ 0 → ⊥) → year_of c y ≡ refused x.refusal
-  year_refuses h = struct_refused year_answer (λ x. x.refusal) (λ x. x.year) year_number (λ v. refl) x (year_of c y) e h
-
-  pub year_gives : x.refusal ≡ 0 → year_of c y ≡ given x.year
-  unfolding year_of
-  year_gives h = struct_given year_answer (λ x. x.refusal) (λ x. x.year) year_number (λ v. refl) x (year_of c y) e (never_refused (year_conditions c y) _ 0 refl) h
 
 -- a year that is given has thirteen places for months
 pub thirteen_places : (c y : ℕ) (x : Year) → year_of c y ≡ given x → length x.months ≡ 13

@@ -1,4 +1,3 @@
 pub mod Years
 pub mod Demand
-pub mod Answers
 pub mod Room

@@ -4,8 +4,8 @@ use Rattle.numbers.specs.Places.{places}
 use Rattle.months_rules.specs.declared.Begun.{Begun}
 use Rattle.months_rules.specs.Rules.{Rules}
 use Rattle.months_rules.specs.FirstMonths.{begun, first_month}
-use Rattle.calendar_year.specs.declared.Listing.{Listing}
 use Rattle.calendar_year.specs.declared.Month.{Month}
+use Rattle.calendar_year.specs.declared.Year.{Year}
 use Rattle.calendar_year.specs.Years.{listed, no_month, leap_number}
 
 -- ---- what is asked
@@ -19,11 +19,12 @@ pub record CoveredMonths (r : Rules) (first end : Begun) : Type 0 where
   pub some : first.month < end.month
   pub at_most_13 : end.month ≤ first.month + 13
 
--- ---- a year's months while they are listed: one more, and so many from month k on
+-- ---- a year while its months are listed: one more, and so many from month k on
 
-unfoldable pub listed_at : Month → ℕ → Listing → Listing
-listed_at m place l =
-    record { leap = elim m.leap [ true ↦ m.number | false ↦ l.leap ]; months = set l.months place m }
+unfoldable pub listed_behind : Month → Year → Year
+listed_behind m y =
+    record { days = y.days; leap = elim m.leap [ true ↦ m.number | false ↦ y.leap ]; count = y.count + 1; months = set y.months y.count m }
 
-abbrev pub listing : Rules → ℕ → ℕ → Listing
-listing r k count = record { leap = leap_number (listed r) k count; months = places no_month (listed r) k count 13 }
+abbrev pub listing : Rules → ℕ → ℕ → ℕ → Year
+listing r days k count =
+    record { days = days; leap = leap_number (listed r) k count; count = count; months = places no_month (listed r) k count 13 }

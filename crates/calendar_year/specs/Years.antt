@@ -1,5 +1,5 @@
 -- A year and its months in order (01, "Months and leap"; what the program prints, at the end of "Worked figures").
-use Rattle.std.specs.Prelude.{true, false, ℕ, zero, suc, ◌+◌, ◌-◌, replicate}
+use Rattle.std.specs.Prelude.{true, false, ℕ, zero, suc, ◌+◌, ◌-◌}
 use Rattle.answers.specs.Answer.{Answer}
 use Rattle.answers.specs.Conditions.{asking}
 use Rattle.numbers.specs.Places.{places}
@@ -29,10 +29,6 @@ year_in r y =
     let k : ℕ = first_month r y in
     let count : ℕ = month_count r y in
     record { days = next_first_day r y - first_day_of r y; leap = leap_number (listed r) k count; count = count; months = places no_month (listed r) k count 13 }
-
--- every field zero
-abbrev pub no_year : Year
-no_year = record { days = 0; leap = 0; count = 0; months = replicate 13 no_month }
 
 -- the year of a number
 unfoldable pub year_of : ℕ → ℕ → Answer Year

@@ -11,7 +11,6 @@ mod program;
 mod records;
 mod refusals;
 mod runs;
-mod signs;
 mod told;
 mod work;
 

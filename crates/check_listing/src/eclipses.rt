@@ -1,10 +1,7 @@
 // A line for each lunar eclipse of the covered years of Senmyo.
+use crate::asked::print_each_asked;
 use std::io;
 
-// Years 0 to 2999 are asked for, so that one which should be refused would show.
 pub fn print_eclipses(rt: &impl Print) -> io::Result<()> {
-    for number in 0..3000u64 {
-        check_print::print_eclipses(rt, 1, number)?;
-    }
-    Ok(())
+    print_each_asked(|number| check_print::print_eclipses(rt, 1, number))
 }

@@ -6,7 +6,7 @@ use std::io;
 fn print_ten_years(rt: &impl Print, calendar: u64, first: u64, last: u64) -> io::Result<()>
     requires { (first ≤ last) × (last < 3000) }
 {
-    for place in 0..10u64 {
+    for place in 0..10 {
         check_print::print_instants(rt, calendar, first + (last - first) * place / 9)?;
     }
     Ok(())

@@ -1,11 +1,13 @@
 // Prints what the calls answer, section by section, each under its heading: at every covered year, and at inputs that show the refusals.
 #![tactic(auto)]
 
+mod asked;
 mod eclipses;
 mod instants;
 mod records;
 mod replies;
 mod runs;
+mod told;
 mod years;
 
 use std::io;
@@ -15,16 +17,16 @@ fn main(rt: HostRuntime) -> io::Result<()> {
 }
 
 fn print_all(rt: &impl Print) -> io::Result<()> {
-    check_print::print_text(rt, b"replies\n")?;
+    println!(rt; "replies")?;
     replies::print_replies(rt)?;
-    check_print::print_text(rt, b"years\n")?;
+    println!(rt; "years")?;
     years::print_years(rt)?;
-    check_print::print_text(rt, b"eclipses\n")?;
+    println!(rt; "eclipses")?;
     eclipses::print_eclipses(rt)?;
-    check_print::print_text(rt, b"instants\n")?;
+    println!(rt; "instants")?;
     instants::print_instants(rt)?;
-    check_print::print_text(rt, b"records\n")?;
+    println!(rt; "records")?;
     records::print_records(rt)?;
-    check_print::print_text(rt, b"runs\n")?;
+    println!(rt; "runs")?;
     runs::print_runs(rt)
 }

@@ -6,11 +6,11 @@ ghost use Rattle.genka.specs.Genka.{part_to_half_parts, new_moon, full_moon};
 use cycles::Cycle;
 
 // 1/752 of a day.
-#[derive(Clone, Copy)]
+#[derive(Clone, Copy, Debug, PartialEq, Eq, PartialOrd, Ord)]
 pub struct Part(pub u64);
 
 // Half a part.
-#[derive(Clone, Copy)]
+#[derive(Clone, Copy, Debug, PartialEq, Eq, PartialOrd, Ord)]
 pub struct HalfPart(pub u64);
 
 pub const HALF_PARTS_IN_DAY: u32 = 2 * NEW_MOONS.of_day;
@@ -31,9 +31,10 @@ pub const MID_TERMS: Cycle = Cycle {
 pub fn new_moon(number: u32) -> Part
     ensures { result ≡ new_moon number }
 {
-    Part(cycles::moment_of(NEW_MOONS, number))
+    Part(NEW_MOONS.moment_of(number))
 }
 
+// A named function, as the units of Senmyo have them; a `From` could not require that the product fits its word.
 pub fn part_to_half_parts(moment: Part) -> HalfPart
     requires { moment.0 * 2 < 2 ^ 64 }
     ensures { result ≡ part_to_half_parts moment }

@@ -10,7 +10,7 @@ use genka::NEW_MOONS;
 use months_rules::{Begun, Calendar};
 
 // The last mid-term by a month's end, and whether the month is leap: then it falls before the month's start.
-#[derive(Clone, Copy)]
+#[derive(Clone, Copy, Debug, PartialEq, Eq)]
 pub struct LastTerm {
     pub term: u32,
     pub leap: bool,
@@ -20,11 +20,11 @@ pub struct LastTerm {
 fn senmyo_month(day: u32) -> Begun
     ensures { result ≡ begun senmyo (month_of senmyo day) }
 {
-    let latest = months_rules::begin(Calendar::Senmyo, senmyo::latest_month(day));
+    let latest = Calendar::Senmyo.begin(senmyo::latest_month(day));
     if latest.start <= day as u64 {
         return latest;
     }
-    months_rules::begin(Calendar::Senmyo, latest.month - 1)
+    Calendar::Senmyo.begin(latest.month - 1)
 }
 
 // The month that has a day.
@@ -35,7 +35,7 @@ pub fn month_of(calendar: Calendar, day: u32) -> Begun
     match calendar {
         Calendar::Senmyo => senmyo_month(day),
         Calendar::Genka => {
-            let last = cycles::last_by(NEW_MOONS, day);
+            let last = NEW_MOONS.last_by(day);
             Begun {
                 month: last.number,
                 start: last.day,
@@ -58,14 +58,14 @@ fn senmyo_month_by(day: u32) -> u32
     latest - 1
 }
 
-// The month that has a day, by its number alone.
+// The month that has a day, by its number alone. (`month_of` works out its first day too, which takes a new moon.)
 #[tactic(auto, unfolding(months_rules::specs::Rules::rules_of))]
 pub fn month_by(calendar: Calendar, day: u32) -> u32
     ensures { result ≡ month_of (rules_of calendar) day }
 {
     match calendar {
         Calendar::Senmyo => senmyo_month_by(day),
-        Calendar::Genka => cycles::last_by(NEW_MOONS, day).number,
+        Calendar::Genka => NEW_MOONS.last_by(day).number,
     }
 }
 
@@ -74,7 +74,7 @@ pub fn last_term_by(calendar: Calendar, month: Begun, next: u64) -> LastTerm
     requires { Ending (rules_of calendar) month next }
     ensures { result ≡ last_term_of (rules_of calendar) month.month }
 {
-    let last = months_rules::mid_term_by(calendar, (next - 1) as u32);
+    let last = calendar.mid_term_by((next - 1) as u32);
     LastTerm {
         term: last.number,
         leap: last.day < month.start,
@@ -87,7 +87,7 @@ pub fn last_term_of(calendar: Calendar, month: Begun) -> LastTerm
     requires month_days { MonthDays (rules_of calendar) month.month }
     ensures { result ≡ last_term_of (rules_of calendar) month.month }
 {
-    let last = months_rules::mid_term_by(calendar, (month.start + 29) as u32);
+    let last = calendar.mid_term_by((month.start + 29) as u32);
     let term = last.number;
     let day = last.day;
     if day < month.start + 29 {
@@ -96,7 +96,7 @@ pub fn last_term_of(calendar: Calendar, month: Begun) -> LastTerm
             leap: day < month.start,
         };
     }
-    if day < months_rules::begin(calendar, month.month + 1).start {
+    if day < calendar.begin(month.month + 1).start {
         return LastTerm { term, leap: false };
     }
     LastTerm {

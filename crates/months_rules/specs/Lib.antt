@@ -1,3 +1,4 @@
 pub mod Rules
+pub mod Numbered
 pub mod FirstMonths
 pub mod Room

@@ -1,10 +1,7 @@
-pub mod Difference
 pub mod Order
-pub mod Signs
 pub mod Size
 pub mod Rounding
 pub mod Tests
-pub mod Arms
 pub mod Spans
 pub mod Places
 pub mod Same

@@ -1,19 +1,19 @@
 -- Laws of `floor`, `nearest` and `modulo`: they are what their names say, they keep the order, and along a line they stay between the ends.
-use mathlib.Core.Path.{◌≡◌, refl, sym, ap}
+use mathlib.Core.Path.{◌≡◌, refl, ap}
 use mathlib.Core.List.{[], ◌∷◌, map}
 use mathlib.Core.Bool.{Bool, ◌&&◌}
-use Prim.Native.Nat.{ℕ, suc, ◌+◌, ◌-◌, ◌*◌, ◌/◌, ◌%◌, ◌<◌, ◌≤◌}
-use native.Mathlib.Nat.{add-mul, suc-mul, div-eq_of_lt-le, mul-le-mul_left, one-mul, zero-mul, mod-lt, div-add-mod', div-mul-le_self, le-div_iff_mul-le, le_trans, mod-eq_of_lt, add-mod_left}
+use Prim.Native.Nat.{ℕ, suc, ◌+◌, ◌-◌, ◌*◌, ◌/◌, ◌<◌, ◌≤◌}
+use native.Mathlib.Nat.{add-mul, suc-mul, div-eq_of_lt-le, mul-le-mul_left, one-mul, zero-mul, mod-lt, div-add-mod', div-mul-le_self, le-div_iff_mul-le, le_trans}
 use native.Mathlib.Omega.{arith}
 use lib.Dec.{T, leb→le, le→leb}
 use lib.IntN.{ℤ, pos, negsuc, neg_ℤ, ◌+ℤ◌, ◌*ℤ◌}
 use lib.Signed.{◌≤ℤ◌, le_z, le_z_yes}
 use mir.Facts.{and_yes}
+use Rattle.std.specs.Int.{int_rem_euclid}
+use Rattle.std.proofs.lemmas.Int.{ints}
 use Rattle.numbers.specs.Sign.{plus, minus}
 use Rattle.numbers.specs.Rounding.{floor, nearest, modulo}
 use Rattle.numbers.specs.Between.{Between}
-use Rattle.numbers.proofs.Difference.{Is, is_pos, is_neg, is_add, is_mul, is_parts, is_sub, is_same}
-use Rattle.numbers.proofs.Order.{is_le, ≤ℤ-trans, pos_le, ≤ℤ-add, ≤ℤ-mul}
 
 -- halves go upward on both sides of zero
 halves : map (λ (z : ℤ). nearest z 2) (minus 3 ∷ minus 1 ∷ plus 1 ∷ plus 3 ∷ []) ≡ minus 1 ∷ plus 0 ∷ plus 1 ∷ plus 2 ∷ []
@@ -31,11 +31,11 @@ floor_mono {x = negsuc m} {y = negsuc n} d p h = le_z_yes (le→leb (n / d) (m /
 
 pub nearest_mono : {x y : ℤ} (d : ℕ) → 0 < d → x ≤ℤ y → nearest x d ≤ℤ nearest y d
 unfolding nearest
-nearest_mono d p h = floor_mono (2 * d) (omega arith) (≤ℤ-add (≤ℤ-mul 2 h) (pos_le {m = d} (omega arith)))
+nearest_mono d p h = floor_mono (2 * d) (omega arith) (omega (arith, ints, h))
 
 pub nearest_pos : (n d : ℕ) → pos 0 ≤ℤ nearest (pos n) d
 unfolding nearest
-nearest_pos n d = pos_le (omega arith)
+nearest_pos n d = omega (arith, ints)
 
 -- what is whole is rounded to itself
 pub nearest_whole : (z : ℤ) (d : ℕ) → 0 < d → nearest (z *ℤ pos d) d ≡ z
@@ -43,41 +43,38 @@ unfolding nearest
 nearest_whole (pos n) d some = ap pos (div-eq_of_lt-le (2 * d) (omega arith) (omega (arith, add-mul n 1 (2 * d))))
 nearest_whole (negsuc n) d some =
     let m = n * (2 * d) + (d - 1) in
-    let told = is_add (is_mul 2 (is_neg (is_pos (suc n * d)))) (is_pos d) in
-    let below : neg_ℤ (pos (suc n * d)) *ℤ pos 2 +ℤ pos d ≡ negsuc m = is_same told (is_neg (is_pos (suc m))) (omega (arith, suc-mul n d)) in
+    let below : neg_ℤ (pos (suc n * d)) *ℤ pos 2 +ℤ pos d ≡ negsuc m = omega (arith, ints, suc-mul n d) in
     rw below (ap negsuc (div-eq_of_lt-le (2 * d) (omega arith) (omega (arith, add-mul n 1 (2 * d)))))
 
 -- the floor is at most the quotient ..
 pub floor_low : (z : ℤ) (d : ℕ) → 0 < d → (floor z d *ℤ pos d) ≤ℤ z
-floor_low (pos n) d p = pos_le (div-mul-le_self n d)
-floor_low (negsuc n) d p =
-    is_le (is_neg (is_pos (suc (n / d) * d))) (is_neg (is_pos (suc n)))
-    (omega (arith, suc-mul (n / d) d, div-add-mod' n d, mod-lt n p))
+floor_low (pos n) d p = omega (arith, ints, div-mul-le_self n d)
+floor_low (negsuc n) d p = omega (arith, ints, suc-mul (n / d) d, div-add-mod' n d, mod-lt n p)
 
 -- .. and one more is above it
 pub floor_high : (z : ℤ) (d : ℕ) → 0 < d → (z +ℤ pos 1) ≤ℤ ((floor z d +ℤ pos 1) *ℤ pos d)
-floor_high (pos n) d p =
-    is_le (is_pos (n + 1)) (is_mul d (is_pos (n / d + 1)))
-    (omega (arith, add-mul (n / d) 1 d, one-mul d, zero-mul d, div-add-mod' n d, mod-lt n p))
+floor_high (pos n) d p = omega (arith, ints, add-mul (n / d) 1 d, one-mul d, zero-mul d, div-add-mod' n d, mod-lt n p)
 floor_high (negsuc n) d p =
-    is_le (is_sub 1 (suc n)) (is_mul d (is_sub 1 (suc (n / d))))
-    (omega (arith, suc-mul (n / d) d, one-mul d, div-mul-le_self n d))
+    let above : negsuc (n / d) +ℤ pos 1 ≡ minus (n / d) = omega (arith, ints) in
+    rw above (grind (arith, ints, div-mul-le_self n d))
 
 -- the numerator a + b r runs along a line: if what its two ends round to lies from low to high, so does what is between
 along : (low high a b : ℤ) (end d : ℕ) → 0 < d → Between low (nearest a d) high → Between low (nearest (a +ℤ b *ℤ pos end) d) high → (r : ℕ) → r ≤ end → Between low (nearest (a +ℤ b *ℤ pos r) d) high
 along low high a (pos s) end d p first last r h =
-    let near = is_add (is_parts a) (is_pos (s * r)) in
-    let far = is_add (is_parts a) (is_pos (s * end)) in
+    let longer = mul-le-mul_left s h in
+    let begun : a ≤ℤ (a +ℤ pos s *ℤ pos r) = omega (arith, ints) in
+    let ended : (a +ℤ pos s *ℤ pos r) ≤ℤ (a +ℤ pos s *ℤ pos end) = omega (arith, ints, longer) in
     record {
-      from = ≤ℤ-trans first.from (nearest_mono d p (is_le (is_parts a) near (omega arith)));
-      to = ≤ℤ-trans (nearest_mono d p (is_le near far (omega (arith, mul-le-mul_left s h)))) last.to;
+      from = omega (arith, ints, first.from, nearest_mono d p begun);
+      to = omega (arith, ints, nearest_mono d p ended, last.to);
     }
 along low high a (negsuc s) end d p first last r h =
-    let near = is_add (is_parts a) (is_neg (is_pos (suc s * r))) in
-    let far = is_add (is_parts a) (is_neg (is_pos (suc s * end))) in
+    let longer = mul-le-mul_left (suc s) h in
+    let begun : (a +ℤ negsuc s *ℤ pos r) ≤ℤ a = omega (arith, ints) in
+    let ended : (a +ℤ negsuc s *ℤ pos end) ≤ℤ (a +ℤ negsuc s *ℤ pos r) = omega (arith, ints, longer) in
     record {
-      from = ≤ℤ-trans last.from (nearest_mono d p (is_le far near (omega (arith, mul-le-mul_left (suc s) h))));
-      to = ≤ℤ-trans (nearest_mono d p (is_le near (is_parts a) (omega arith))) first.to;
+      from = omega (arith, ints, last.from, nearest_mono d p ended);
+      to = omega (arith, ints, nearest_mono d p begun, first.to);
     }
 
 abbrev between : ℤ → ℤ → ℤ → Bool
@@ -97,20 +94,17 @@ between_ends low high a b end d p tested =
     let (first, last) = and_yes (between low (nearest a d) high) (between low (nearest (a +ℤ b *ℤ pos end) d) high) tested in
     along low high a b end d p (between_yes _ _ _ first) (between_yes _ _ _ last)
 
--- a number that is n less d leaves what n does
-pub modulo_told : {z : ℤ} {n d : ℕ} → Is z n d → modulo z d ≡ n % d
+-- modulo is what the library's `rem_euclid` leaves
+pub rem_euclid_lem : (z : ℤ) (d : ℕ) → int_rem_euclid z (pos d) ≡ pos (modulo z d)
 unfolding modulo
-modulo_told {z = pos m} {n} {d} h = rw h.difference (sym (add-mod_left d m))
-modulo_told {z = negsuc m} {n} {d} h =
-    rw (mod-eq_of_lt {n = m} {m = d} (omega arith), mod-eq_of_lt {n = n} {m = d} (omega arith)) (omega arith)
+rem_euclid_lem (pos n) d = refl
+rem_euclid_lem (negsuc n) d = refl
 
 -- floor and modulo take a number apart
 pub floor_and_modulo : (z : ℤ) (d : ℕ) → 0 < d → pos (modulo z d) +ℤ floor z d *ℤ pos d ≡ z
 unfolding modulo
 floor_and_modulo (pos n) d p = ap pos (omega (arith, div-add-mod' n d))
-floor_and_modulo (negsuc n) d p =
-    is_same (is_add (is_pos (d - 1 - n % d)) (is_neg (is_pos (suc (n / d) * d)))) (is_neg (is_pos (suc n)))
-    (omega (arith, suc-mul (n / d) d, div-add-mod' n d, mod-lt n p))
+floor_and_modulo (negsuc n) d p = omega (arith, ints, suc-mul (n / d) d, div-add-mod' n d, mod-lt n p)
 
 -- .. modulo being less than d
 pub modulo_below : (z : ℤ) (d : ℕ) → 0 < d → modulo z d < d

@@ -20,7 +20,7 @@ fn on_side_of(z: i64, n: u64) -> i64
     if 0 <= z { n as i64 } else { -1 - n as i64 }
 }
 
-// The largest whole number that is at most z / divisor.
+// The largest whole number that is at most z / divisor. (`div_euclid` takes no divisor of 2^63 or more.)
 pub fn floor_of(z: i64, divisor: u64) -> i64
     requires { 0 < divisor }
     ensures { result ≡ floor z divisor }
@@ -29,6 +29,7 @@ pub fn floor_of(z: i64, divisor: u64) -> i64
 }
 
 // z / divisor to the nearest whole number, halves upward.
+#[tactic(auto, unfolding(crate::specs::Rounding::nearest))]
 pub fn nearest_of(z: i64, divisor: u64) -> i64
     requires { Roundable z divisor }
     ensures { result ≡ nearest z divisor }

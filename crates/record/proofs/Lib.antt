@@ -7,4 +7,3 @@ pub mod Steps
 pub mod RecordLaws
 pub mod Figures
 pub mod OneAnswer
-pub mod Short

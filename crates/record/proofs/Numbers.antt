@@ -2,12 +2,10 @@
 use mathlib.Core.Path.{◌≡◌, refl, sym, ap, ◌∙◌}
 use mathlib.Core.List.{List, [], ◌∷◌, ◌++◌}
 use Prim.Native.Nat.{ℕ, zero, suc, ◌+◌, ◌*◌, ◌/◌, ◌%◌, ◌^◌, ◌<◌, ◌≤◌}
-use native.Mathlib.Nat.{pow-suc, pow-le-pow_right, div-lt_iff_lt-mul, div-add-mod'}
-use native.Mathlib.Numerals.{add-one}
+use native.Mathlib.Nat.{pow-suc, div-lt_iff_lt-mul, div-add-mod'}
 use native.Mathlib.Omega.{arith}
 use lib.ListN.{length, get_or, drop, length-append}
 use lib.Seq.{drop-cons, drop-drop, drop_at, get_or_at, get_or-drop, append_snoc}
-use lib.Dec.{lit<}
 use Rattle.record_fields.specs.Tagged.{Bytes, bytes_of, number_at}
 
 length_bytes : (w n : ℕ) → length (bytes_of w n) ≡ w
@@ -16,12 +14,6 @@ length_bytes zero n = refl
 length_bytes (suc w) n = length-append (bytes_of w (n / 256)) (n % 256 ∷ []) ∙ ap (λ k. k + 1) (length_bytes w (n / 256)) ∙ omega arith
 
 module _ (bytes : List ℕ) (place : ℕ) where
-  -- the number that bytes tell fits them
-  pub number_small : Bytes bytes → (w : ℕ) → number_at bytes place w < 256 ^ w
-  unfolding number_at
-  number_small are zero = omega arith
-  number_small are (suc w) = rw (pow-suc 256 w) (omega (arith, number_small are w, are (place + w)))
-
   -- bytes from a place on are those of the number that they tell, and the rest ..
   pub number_there : Bytes bytes → (w : ℕ) → place + w ≤ length bytes → drop place bytes ≡ bytes_of w (number_at bytes place w) ++ drop (place + w) bytes
   unfolding bytes_of number_at
@@ -55,13 +47,3 @@ pub one_number : (l m : List ℕ) (place w : ℕ) → ((i : ℕ) → i < w → g
 unfolding number_at
 one_number l m place zero agree = refl
 one_number l m place (suc w) agree = rw (one_number l m place w (λ i h. agree i (omega (arith, h))), agree w (omega arith))
-
--- ---- a number taken byte by byte
-
--- three bytes at most ..
-pub three_bytes : (n taken : ℕ) → n < 256 ^ taken → taken ≤ 3 → n < 16777216
-three_bytes n taken small h = omega (arith, small, pow-le-pow_right {n = 256} (lit< tt) h)
-
--- .. and one more
-pub one_byte_more : (n byte taken : ℕ) → n < 256 ^ taken → byte < 256 → n * 256 + byte < 256 ^ (taken + 1)
-one_byte_more n byte taken small h = rw (add-one taken, pow-suc 256 taken) (omega (arith, small, h))

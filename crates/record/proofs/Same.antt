@@ -1,9 +1,11 @@
 -- The test that two lists of numbers are the same.
-use mathlib.Core.Path.{◌≡◌}
-use mathlib.Core.Bool.{true, false}
-use mathlib.Core.List.{List}
+use mathlib.Core.Path.{◌≡◌, refl, ap}
+use mathlib.Core.Bool.{true, false, ◌&&◌}
+use mathlib.Core.List.{List, [], ◌∷◌}
 use Prim.Native.Nat.{ℕ}
+use Rattle.std.specs.Cmp.Lexicographic.{pointwise}
 use lib.Dec.{eqb}
+use Rattle.numbers.specs.Same.{same_by}
 use Rattle.numbers.proofs.Same.{Tells, tells_numbers, tells_lists, not_one}
 use Rattle.record_fields.specs.Tagged.{same}
 
@@ -21,3 +23,11 @@ one_same l m e = rw e (tells_same.itself m)
 -- .. and two are not
 pub not_same : (l m : List ℕ) → (l ≡ m → ⊥) → same l m ≡ false
 not_same = not_one same tells_same
+
+-- `==` at bytes is that test
+pub pointwise_same : (l m : List ℕ) → pointwise eqb l m ≡ same l m
+unfolding same_by
+pointwise_same [] [] = refl
+pointwise_same [] (y ∷ ys) = refl
+pointwise_same (x ∷ xs) [] = refl
+pointwise_same (x ∷ xs) (y ∷ ys) = ap (λ b. eqb x y && b) (pointwise_same xs ys)

@@ -1,20 +1,11 @@
--- What inner functions ask of their callers, and what they find. No rule of the record.
-use Rattle.std.specs.Prelude.{List, [], ◌∷◌, ℕ, ◌+◌, ◌≤◌, length, get_or}
+-- What an inner function finds. No rule of the record.
+use Rattle.std.specs.Prelude.{List, [], ◌∷◌, ℕ, get_or}
 use Rattle.answers.specs.Answer.{Answer, then}
 use Rattle.answers.specs.Conditions.{asking}
 use Rattle.record_fields.specs.declared.Fields.{Fields}
 use Rattle.record_fields.specs.Tagged.{numbers_of, same}
 use Rattle.record_fields.specs.Fields.{layout}
 use Rattle.record_fields.specs.Room.{fields_of}
-
--- ---- what is asked
-
--- so many bytes stand from a place on, and a word holds their number
-pub record NumberThere (bytes : List ℕ) (place count : ℕ) : Type 0 where
-  pub inside : place + count ≤ length bytes
-  pub at_most_4 : count ≤ 4
-
--- ---- what is found
 
 -- the fields with these numbers, if they are the rule's own for their calendar and year
 unfoldable pub accepted_of : List ℕ → Answer Fields

@@ -1,5 +1,5 @@
 -- The rule's fields of a covered year: where they stand in the year's list, and that they fit their bytes.
-use mathlib.Core.Path.{◌≡◌, refl, sym, ap, ◌∙◌}
+use mathlib.Core.Path.{◌≡◌, sym, ap}
 use mathlib.Core.Bool.{true}
 use Prim.Native.Nat.{ℕ, ◌+◌, ◌<◌, ◌≤◌, ◌^◌}
 use native.Mathlib.Omega.{arith}
@@ -23,10 +23,9 @@ use Rattle.calendar_year.proofs.FirstDays.{day_small}
 use Rattle.calendar_year.proofs.Refusals.{year_given}
 use Rattle.record_fields.specs.Fields.{long_months_of, fields_in}
 use Rattle.record_fields.specs.Room.{fields_of}
-use Rattle.record_fields.specs.Answers.{record_answer}
 use Rattle.record_fields.proofs.LongMonths.{unused_bits_0}
 use Rattle.record_fields.proofs.YearFields.{Small}
-use Rattle.record_fields.proofs.Steps.{fields_known}
+use Rattle.record_fields.proofs.Steps.{fields_then, fields_refused}
 
 -- the first month listed begins on the year's first day
 first_listed : (c : Calendar) (y : ℕ) → CoveredYear (rules_of c) y → (get_or (year_in (rules_of c) y).months 0 no_month).first_day ≡ day_number (rules_of c) (first_day_of (rules_of c) y)
@@ -63,9 +62,18 @@ module _ (c y : ℕ) (is : is_calendar c ≡ true) (covered : is_covered (rules_
         long_months = omega (arith, long_small (numbered c) y its_year);
       }
 
--- .. of a year that is answered
-pub answered_small : (c y : ℕ) (x : Year) → year_of c y ≡ given x → Small (fields_in c y)
-answered_small c y x e = let g = (year_given c y x).only_if e in fields_small c y g.0.0 g.0.1.0
+-- .. so that the calendar and year of a year that is answered do
+module _ (c y : ℕ) (x : Year) (e : given x ≡ year_of c y) where
+  answered_small : Small (fields_in c y)
+  answered_small = let g = (year_given c y x).only_if (sym e) in fields_small c y g.0.0 g.0.1.0
+
+  pub calendar_fits : c < 256
+  unfolding fields_in
+  calendar_fits = answered_small.calendar
+
+  pub year_fits : y < 65536
+  unfolding fields_in
+  year_fits = answered_small.year
 
 -- the fields of a year as its list has them
 pub fields_listed : (c y : ℕ) (x : Year) → year_of c y ≡ given x → fields_in c y ≡ record { calendar = c; year = y; first_day = (get_or x.months 0 no_month).first_day; leap = x.leap; long_months = long_months_of x.months }
@@ -76,8 +84,7 @@ fields_listed c y x e =
     rw (sym g.1, first)
 
 -- .. and as the code answers them
-pub fields_told : (c y : ℕ) (x : Year) (long : ℕ) → year_of c y ≡ given x → long ≡ long_months_of x.months → record { refusal = 0; fields = record { calendar = c; year = y; first_day = (get_or x.months 0 no_month).first_day; leap = x.leap; long_months = long } } ≡ record_answer (fields_of c y)
-fields_told c y x long e told =
-    let g = (year_given c y x).only_if e in
-    let known : fields_of c y ≡ given (fields_in c y) = (fields_known c y (fields_in c y)).if (g.0, refl) in
-    rw told (sym (ap record_answer (known ∙ ap given (fields_listed c y x e))))
+pub fields_told : (c y : ℕ) (x : Year) (long : ℕ) → given x ≡ year_of c y → long ≡ long_months_of x.months → given (record { calendar = c; year = y; first_day = (get_or x.months 0 no_month).first_day; leap = x.leap; long_months = long }) ≡ fields_of c y
+fields_told c y x long e told = rw (fields_then, ← e, fields_listed c y x (sym e), told)
+
+pub ruleset telling = (calendar_fits, year_fits, fields_told, fields_refused)

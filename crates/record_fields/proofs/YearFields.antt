@@ -17,7 +17,7 @@ pub record Small (x : Fields) : Type 0 where
   pub leap : x.leap < 256
   pub long_months : x.long_months < 65536
 
--- so that no high byte needs to be cut
+-- so that a record spelled out cuts no high byte
 pub bytes_told : (x : Fields) → Small x →
     1 ∷ 0 ∷ 1 ∷ x.calendar
     ∷ 2 ∷ 0 ∷ 2 ∷ x.year / 256 ∷ x.year % 256

@@ -1,4 +1,3 @@
 pub mod Tagged
 pub mod Fields
-pub mod Answers
 pub mod Room

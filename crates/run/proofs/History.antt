@@ -6,7 +6,7 @@ use Prim.Native.Nat.{ℕ, ◌+◌, ◌-◌, ◌≤◌}
 use native.Mathlib.Omega.{arith}
 use lib.Dec.{ltb}
 use borrow.Author.Tests.{ltb-true}
-use Rattle.answers.specs.Answer.{Answer, given}
+use Rattle.answers.specs.Answer.{given, left_in}
 use Rattle.answers.specs.Conditions.{asking}
 use Rattle.answers.proofs.Answers.{one_given}
 use Rattle.calendar_range.specs.Range.{is_calendar, rules_for, is_covered}
@@ -25,7 +25,6 @@ use Rattle.run_lookup.specs.Held.{holds_year, holds_day}
 use Rattle.run_lookup.proofs.Places.{held_year_covered}
 use Rattle.run_lookup.proofs.DateOfDay.{held_day_told, held_day_covered, held_date_year, year_day_held, place_day_held, one_place}
 use Rattle.run.specs.Calls.{open_of, extend_of, drop_of, run_day_of, run_date_of}
-use Rattle.run.specs.Answers.{run_answer}
 use Rattle.run.specs.History.{Call, extend, drop, run_after, run_after_all, Years, years_after, years_after_all, OneDate, Demanded}
 use Rattle.run.proofs.Refusals.{open_given, run_day_given}
 
@@ -118,7 +117,7 @@ module _ (c : ℕ) (y : Years) (years : KeptYears c y.first y.number) where
   call_leaves extend = rw (kept_is its_run its_kept, run_after) (by_tests (is_covered (rules_for c) (y.first + y.number)) (ltb y.number 14) refl refl)
     where
       by_tests : (a b : Bool) → is_covered (rules_for c) (y.first + y.number) ≡ a → ltb y.number 14 ≡ b
-          → Leaves (run_answer its_run (asking ((a, 2) ∷ (b, 9) ∷ []) (run_of c y.first (y.number + 1)))).run (elim (a && b) [ true ↦ record { first = y.first; number = y.number + 1 } | false ↦ y ])
+          → Leaves (left_in its_run (asking ((a, 2) ∷ (b, 9) ∷ []) (run_of c y.first (y.number + 1)))) (elim (a && b) [ true ↦ record { first = y.first; number = y.number + 1 } | false ↦ y ])
       by_tests true true e f =
           let next = covered_year_told (rules_for c) (y.first + y.number) e in
           changed y.first (y.number + 1) (record { known = years.room.known; from = years.room.from; to = omega (arith, next.to); at_most_14 = omega (arith, ltb-true y.number 14 f) }) (omega arith)
@@ -126,7 +125,7 @@ module _ (c : ℕ) (y : Years) (years : KeptYears c y.first y.number) where
       by_tests false b e f = unchanged
   call_leaves drop = rw (kept_is its_run its_kept, run_after) (by_test (ltb 1 y.number) refl)
     where
-      by_test : (b : Bool) → ltb 1 y.number ≡ b → Leaves (run_answer its_run (asking ((b, 10) ∷ []) (run_of c (y.first + 1) (y.number - 1)))).run (elim b [ true ↦ record { first = y.first + 1; number = y.number - 1 } | false ↦ y ])
+      by_test : (b : Bool) → ltb 1 y.number ≡ b → Leaves (left_in its_run (asking ((b, 10) ∷ []) (run_of c (y.first + 1) (y.number - 1)))) (elim b [ true ↦ record { first = y.first + 1; number = y.number - 1 } | false ↦ y ])
       by_test true e =
           let more = ltb-true 1 y.number e in
           changed (y.first + 1) (y.number - 1) (record { known = years.room.known; from = omega (arith, years.room.from); to = omega (arith, years.room.to, more); at_most_14 = omega (arith, years.room.at_most_14) }) (omega (arith, more))
@@ -142,8 +141,8 @@ after_calls c y years run e (call ∷ calls) =
     after_calls c (years_after (rules_for c) y call) left.years_left (run_after run call) (ap (λ (x : Run). run_after x call) e ∙ left.content) calls
 
 -- from a run opened at a covered year
-pub demanded_after : (c y : ℕ) → is_calendar c ≡ true → is_covered (rules_for c) y ≡ true → (calls : List Call) → Demanded c (years_after_all (rules_for c) (record { first = y; number = 1 }) calls) (run_after_all (run_answer no_run (open_of c y)).run calls)
+pub demanded_after : (c y : ℕ) → is_calendar c ≡ true → is_covered (rules_for c) y ≡ true → (calls : List Call) → Demanded c (years_after_all (rules_for c) (record { first = y; number = 1 }) calls) (run_after_all (left_in no_run (open_of c y)) calls)
 demanded_after c y known covered calls =
     let told = covered_year_told (rules_for c) y covered in
     let years : KeptYears c y 1 = record { room = record { known = known; from = told.from; to = omega (arith, told.to); at_most_14 = omega arith }; at_least_1 = omega arith } in
-    after_calls c (record { first = y; number = 1 }) years _ (ap (λ (a : Answer Run). (run_answer no_run a).run) ((open_given c y (run_of c y 1)).if ((known, (covered, tt)), refl))) calls
+    after_calls c (record { first = y; number = 1 }) years _ (ap (left_in no_run) ((open_given c y (run_of c y 1)).if ((known, (covered, tt)), refl))) calls

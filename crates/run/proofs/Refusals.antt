@@ -3,7 +3,7 @@ use mathlib.Core.Path.{◌≡◌, refl}
 use mathlib.Core.Bool.{Bool, true, false}
 use Prim.Native.Nat.{ℕ, ◌+◌, ◌-◌}
 use lib.Dec.{ltb}
-use Rattle.answers.specs.Answer.{given, refused}
+use Rattle.answers.specs.Answer.{given, refused, left_in}
 use Rattle.answers.specs.Conditions.{AllHold, FirstFails, Exactly}
 use Rattle.answers.proofs.Conditions.{given_exactly, refused_exactly}
 use Rattle.months_rules.specs.Rules.{Rules}
@@ -115,7 +115,11 @@ module _ (run : Run) (n : ℕ) where
   pub run_date_refused_5 : Exactly (run_date_of run n ≡ refused 5) ((is_run run ≡ true) × (holds_day run n ≡ false))
   run_date_refused_5 = run_date_refused 5
 
--- ---- the run of zeros that a refused opening gives is none
+-- ---- the run of zeros, which stands for a run that was refused, is none
+
+-- a refused opening leaves it, where nothing else was held
+pub zeros_opened : (c y n : ℕ) → open_of c y ≡ refused n → left_in no_run (open_of c y) ≡ no_run
+zeros_opened c y n e = rw e
 
 zeros_no_run : is_run no_run ≡ false
 unfolding is_run can_be_kept

@@ -1,12 +1,13 @@
 -- The calls' definitions, step by step as the code takes them.
-use mathlib.Core.Path.{◌≡◌, sym, ap}
-use mathlib.Core.Bool.{Bool, true, ◌&&◌}
-use mathlib.Core.List.{[]}
+use mathlib.Core.Path.{◌≡◌, refl, sym, ap}
+use mathlib.Core.Bool.{Bool, true, false, ◌&&◌}
+use mathlib.Core.List.{[], ◌∷◌}
 use Prim.Native.Nat.{ℕ, ◌+◌, ◌<◌}
 use native.Mathlib.Omega.{arith}
-use Rattle.answers.specs.Answer.{given, then}
+use Rattle.answers.specs.Answer.{given, refused, then}
 use Rattle.answers.specs.Conditions.{asking}
-use Rattle.answers.proofs.Conditions.{then_asking}
+use Rattle.answers.proofs.Answers.{not_given, one_refusal}
+use Rattle.answers.proofs.Conditions.{then_asking, given_exactly}
 use Rattle.months_rules.specs.declared.Calendar.{Calendar}
 use Rattle.calendar_range.specs.Range.{is_calendar, rules_for, is_covered, year_asked}
 use Rattle.calendar_range.proofs.Covered.{asked_given, covered_year_told}
@@ -15,8 +16,7 @@ use Rattle.run_content.specs.Runs.{run_of}
 use Rattle.run_content.specs.Room.{CoveredYears, Kept, Extendable}
 use Rattle.run_content.proofs.Content.{its_rules}
 use Rattle.run_examination.specs.Examined.{is_run}
-use Rattle.run_lookup.specs.Held.{day_in_run, date_in_run}
-use Rattle.run.specs.Calls.{open_of, run_day_of, run_date_of}
+use Rattle.run.specs.Calls.{examined_of, open_of}
 
 -- ---- opening: a year that was asked for, and is covered
 
@@ -44,13 +44,25 @@ module _ {run : Run} (kept : Kept run) where
       let next = covered_year_told (its_rules run) (run.first_year + run.years) covered in
       record { own = kept.own; room = record { known = kept.room.known; from = kept.room.from; to = omega (arith, next.to); at_most_14 = omega (arith, more) } }
 
--- ---- looking up: what follows the examination
+-- ---- the examination
 
-module _ (run : Run) (is : is_run run ≡ true) where
-  pub date_in_it : (n : ℕ) → run_date_of run n ≡ date_in_run run n
-  unfolding run_date_of date_in_run asking
-  date_in_it n = rw is
+pub passed : (run : Run) → is_run run ≡ true → given run ≡ examined_of run
+unfolding examined_of asking
+passed run is = rw is
 
-  pub day_in_it : (y m : ℕ) (leap : Bool) (d : ℕ) → run_day_of run y m leap d ≡ day_in_run run y m leap d
-  unfolding run_day_of day_in_run asking
-  day_in_it y m leap d = rw is
+pub failed : (run : Run) → is_run run ≡ false → refused 11 ≡ examined_of run
+unfolding examined_of asking
+failed run none = rw none
+
+-- what is found to be a run is one, and what is refused is none
+pub found_run : (run : Run) {x : Run} → given x ≡ examined_of run → is_run run ≡ true
+unfolding examined_of
+found_run run {x} e = ((given_exactly ((is_run run, 11) ∷ []) run x).only_if (sym e)).0.0
+
+pub refused_run : (run : Run) {n : ℕ} → refused n ≡ examined_of run → (is_run run ≡ false) × (n ≡ 11)
+unfolding examined_of asking
+refused_run run {n} e = by_test (is_run run) refl
+  where
+    by_test : (b : Bool) → is_run run ≡ b → (is_run run ≡ false) × (n ≡ 11)
+    by_test true h = absurd (not_given n run (rw h at e))
+    by_test false h = (h, one_refusal n 11 (rw h at e))

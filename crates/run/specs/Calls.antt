@@ -11,6 +11,10 @@ use Rattle.run_content.specs.Runs.{run_of}
 use Rattle.run_examination.specs.Examined.{is_run}
 use Rattle.run_lookup.specs.Held.{day_in_run_conditions, date_in_run_conditions}
 
+-- what is given for a run, if it is one
+unfoldable pub examined_of : Run → Answer Run
+examined_of run = asking ((is_run run, 11) ∷ []) run
+
 -- ---- open at a year; extend by the next; drop the oldest
 
 -- the run of one year

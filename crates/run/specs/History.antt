@@ -1,6 +1,6 @@
 -- Calls on a run one after the other, and what is demanded of the run after them (docs/PROMISES.md, the third demand; its words are quoted).
 use Rattle.std.specs.Prelude.{◌≡◌, Bool, true, false, ◌&&◌, List, [], ◌∷◌, ℕ, ◌+◌, ◌-◌, ◌<◌, ◌≤◌, ltb}
-use Rattle.answers.specs.Answer.{given}
+use Rattle.answers.specs.Answer.{given, left_in}
 use Rattle.months_rules.specs.Rules.{Rules}
 use Rattle.calendar_range.specs.Range.{rules_for, is_covered}
 use Rattle.calendar_date.specs.declared.Date.{Date}
@@ -10,17 +10,16 @@ use Rattle.run_content.specs.Runs.{run_of}
 use Rattle.run_examination.specs.Examined.{is_run}
 use Rattle.run_lookup.specs.Held.{holds_year, holds_day, PlaceHas, OnePlace}
 use Rattle.run.specs.Calls.{extend_of, drop_of, run_day_of, run_date_of}
-use Rattle.run.specs.Answers.{run_answer}
 
 -- "any extending and dropping, refused calls too"
 pub data Call : Type 0 where
   extend : Call
   drop : Call
 
--- the run that a call gives back
+-- the run that a call leaves
 abbrev pub run_after : Run → Call → Run
-run_after run extend = (run_answer run (extend_of run)).run
-run_after run drop = (run_answer run (drop_of run)).run
+run_after run extend = left_in run (extend_of run)
+run_after run drop = left_in run (drop_of run)
 
 -- .. and all calls of a list, the first of them first
 unfoldable pub run_after_all : Run → List Call → Run

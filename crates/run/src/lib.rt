@@ -1,96 +1,77 @@
+// The calls on a run: open, extend, drop, look up.
 #![tactic(auto)]
 
 ghost use Rattle.std.specs.Prelude.{◌≡◌};
-ghost use Rattle.calendar_date.specs.Answers.{day_means, date_means};
-ghost use Rattle.run_content.specs.Runs.{no_run};
-ghost use Rattle.run.specs.Calls.{open_of, extend_of, drop_of, run_day_of, run_date_of};
-ghost use Rattle.run.specs.Answers.{run_answer};
+ghost use Rattle.answers.specs.Answer.{told, told_as, done, left_in};
+ghost use Rattle.run.specs.Calls.{examined_of, open_of, extend_of, drop_of, run_day_of, run_date_of};
+ghost use Rattle.run_lookup.specs.declared.KeptRun.{KeptRun};
 
-pub use calendar_date::{Date, DateAnswer, DayAnswer};
-use calendar_range::YearAsked;
+pub use answers::Refusal;
+pub use calendar_date::Date;
 pub use run_content::Run;
-
-// The run that was asked for and 0, or the refusal's number and the run as it was given; a run of zeros where none was.
-#[derive(Clone, Copy)]
-pub struct RunAnswer {
-    pub refusal: u8,
-    pub run: Run,
-}
+use run_lookup::KeptRun;
 
 // The run of one year.
-pub fn open_run(calendar: u64, year: u64) -> RunAnswer
-    ensures { result ≡ run_answer no_run (open_of calendar year) }
+pub fn open_run(calendar: u64, year: u64) -> Result<Run, Refusal>
+    ensures { told result ≡ open_of calendar year }
 {
-    let asked = calendar_range::asked_year(calendar, year);
-    let YearAsked::Covered(_, covered) = asked else {
-        return RunAnswer {
-            refusal: calendar_range::year_refusal(asked),
-            run: run_content::empty_run(0, 0),
-        };
-    };
-    RunAnswer {
-        refusal: 0,
-        run: run_content::run_of(calendar as u8, covered, 1),
-    }
+    let known = calendar_range::asked_year(calendar, year)?;
+    Ok(run_content::run_of(calendar as u8, known.year, 1))
 }
 
-// The run with its next year.
-#[tactic(auto, using(crate::proofs::Limits::full_refused))]
-pub fn extend_run(run: Run) -> RunAnswer
-    ensures { result ≡ run_answer run (extend_of run) }
+// What is given for a run, if it is one.
+#[tactic(auto, using(crate::proofs::Steps::passed, crate::proofs::Steps::failed))]
+fn examined(run: &Run) -> Result<KeptRun<'_>, Refusal>
+    ensures { told_as (λ (kept : KeptRun). kept.run.now) result ≡ examined_of run.now }
 {
     if !run_examination::is_run(run) {
-        return RunAnswer { refusal: 11, run };
+        return Err(Refusal::NoRun);
     }
+    Ok(KeptRun { run })
+}
+
+// A run gets its next year.
+#[tactic(auto, using(crate::proofs::Limits::full_told, crate::proofs::Limits::full_left))]
+pub fn extend_run(run: &mut Run) -> Result<(), Refusal>
+    ensures refusal { told result ≡ done (extend_of run.old) }
+    ensures left { run.new ≡ left_in run.old (extend_of run.old) }
+{
+    examined(run)?;
     let next = run.first_year as u64 + run.years as u64;
     if !calendar_range::is_covered(run.calendar as u64, next) {
-        return RunAnswer { refusal: 2, run };
+        return Err(Refusal::YearNotCovered);
     }
     if 14 <= run.years {
-        return RunAnswer { refusal: 9, run };
+        return Err(Refusal::RunFull);
     }
-    let longer = run_content::with_next(run);
-    RunAnswer {
-        refusal: 0,
-        run: longer,
-    }
+    run_content::with_next(run);
+    Ok(())
 }
 
-// The run without its first year.
-#[tactic(auto, using(crate::proofs::Limits::last_refused))]
-pub fn drop_oldest(run: Run) -> RunAnswer
-    ensures { result ≡ run_answer run (drop_of run) }
+// A run loses its first year.
+#[tactic(auto, using(crate::proofs::Limits::last_told, crate::proofs::Limits::last_left))]
+pub fn drop_oldest(run: &mut Run) -> Result<(), Refusal>
+    ensures refusal { told result ≡ done (drop_of run.old) }
+    ensures left { run.new ≡ left_in run.old (drop_of run.old) }
 {
-    if !run_examination::is_run(run) {
-        return RunAnswer { refusal: 11, run };
-    }
+    examined(run)?;
     if run.years <= 1 {
-        return RunAnswer { refusal: 10, run };
+        return Err(Refusal::RunOfOneYear);
     }
-    let shorter = run_content::without_oldest(run);
-    RunAnswer {
-        refusal: 0,
-        run: shorter,
-    }
+    run_content::without_oldest(run);
+    Ok(())
 }
 
 // The date of a day, looked up in a run.
-pub fn run_date_of(run: Run, day: u64) -> DateAnswer
-    ensures { date_means result ≡ run_date_of run day }
+pub fn run_date_of(run: &Run, day: u64) -> Result<Date, Refusal>
+    ensures { told result ≡ run_date_of run.now day }
 {
-    if !run_examination::is_run(run) {
-        return DateAnswer::Refused(11);
-    }
-    run_lookup::date_in_run(run, day)
+    examined(run)?.date_of(day)
 }
 
 // The day of a date, looked up in a run.
-#[tactic(auto, using(crate::proofs::LookedUp::looked_up, crate::proofs::LookedUp::not_looked_up))]
-pub fn run_day_of(run: Run, year: u64, month: u64, leap: bool, day: u64) -> DayAnswer
-    ensures { day_means result ≡ run_day_of run year month leap day }
+pub fn run_day_of(run: &Run, year: u64, month: u64, leap: bool, day: u64) -> Result<u32, Refusal>
+    ensures { told result ≡ run_day_of run.now year month leap day }
 {
-    if run_examination::is_run(run) {
-        return run_lookup::day_in_run(run, year, month, leap, day);
-    }
-    DayAnswer::Refused(11)
+    examined(run)?.day_of(year, month, leap, day)
 }

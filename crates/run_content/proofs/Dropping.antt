@@ -5,8 +5,9 @@ use mathlib.Core.List.{List}
 use Prim.Native.Nat.{ℕ, ◌+◌, ◌-◌, ◌/◌, ◌%◌, ◌<◌}
 use native.Mathlib.Omega.{arith}
 use lib.Dec.{ltb}
-use lib.ListN.{get_or, set}
+use lib.ListN.{get_or}
 use borrow.Author.Tests.{ltb-true, ltb-false}
+use Rattle.numbers.specs.Places.{places}
 use Rattle.months_rules.specs.FirstMonths.{first_month}
 use Rattle.months_rules.proofs.Calendars.{steady}
 use Rattle.months_rules.proofs.FirstMonths.{years_in_order}
@@ -19,9 +20,10 @@ use Rattle.calendar_range.proofs.Covered.{covered_year_tested}
 use Rattle.calendar_range.proofs.Numbers.{year_small}
 use Rattle.calendar_year.proofs.Covered.{YearRoom, year_room}
 use Rattle.run_content.specs.declared.Run.{Run}
-use Rattle.run_content.specs.Room.{Kept, Droppable}
-use Rattle.run_content.specs.Runs.{run_of}
-use Rattle.run_content.proofs.Content.{its_calendar, its_rules, its_first, Rows, one_month_more, run_told, own_count, own_day, own_date, own_covering, count_fits}
+use Rattle.run_content.specs.Room.{moved_up, Kept, Droppable}
+use Rattle.run_content.specs.Runs.{held_first, held_last, run_of}
+use Rattle.run_content.proofs.Content.{its_calendar, its_rules, its_first, run_told, own_count, own_rows, own_covering, count_fits}
+use Rattle.run_content.proofs.Moving.{moved}
 use Rattle.run_content.proofs.LastDates.{told}
 
 -- month 1 of a run's second year
@@ -89,17 +91,14 @@ module _ {run : Run} (h : Droppable run) {oldest : ℕ} (is_oldest : oldest ≡ 
   count : its_first run + oldest ≡ second run
   count = omega (arith, is_oldest, (oldest_room h.kept h.more).at_least)
 
-  -- one more month moves up
-  pub month_moved : (place : ℕ) → place < run.count - oldest → {days dates : List ℕ} → Rows (its_rules run) (second run) place days dates
-      → Rows (its_rules run) (second run) (place + 1) (set days place (get_or run.first_days (place + oldest) 0)) (set dates place (get_or run.last_dates (place + oldest) 0))
-  month_moved place left rows =
-      let here : its_first run + (place + oldest) ≡ second run + place = omega (arith, count) in
-      let among : place + oldest < run.count = omega (arith, left) in
-      one_month_more rows (omega (arith, left, h.fits)) (rw (← here) (own_day h.kept (place + oldest) among)) (rw (← here) (own_date h.kept (place + oldest) among))
+  -- a row that holds its months holds the later ones when they have moved up
+  row_moved : (thing : ℕ → ℕ) {l : List ℕ} → l ≡ places 0 thing (its_first run) run.count 174 → moved_up l oldest run.count ≡ places 0 thing (second run) (run.count - oldest) 174
+  row_moved thing e = rw (e, ← count) (moved thing (its_first run) run.count 174 oldest (rw is_oldest h.oldest_held) h.fits)
 
-  -- all of them together make the run that is shorter by the year
-  pub oldest_dropped : {days dates : List ℕ} → Rows (its_rules run) (second run) (run.count - oldest) days dates
-      → record { calendar = run.calendar; first_year = run.first_year + 1; years = run.years - 1; count = run.count - oldest; first_days = days; last_dates = dates } ≡ run_of run.calendar (run.first_year + 1) (run.years - 1)
+  -- both of them make the run that is shorter by the year
+  pub oldest_dropped : record { calendar = run.calendar; first_year = run.first_year + 1; years = run.years - 1; count = run.count - oldest; first_days = moved_up run.first_days oldest run.count; last_dates = moved_up run.last_dates oldest run.count } ≡ run_of run.calendar (run.first_year + 1) (run.years - 1)
   oldest_dropped =
       let on : run.first_year + 1 + (run.years - 1) ≡ run.first_year + run.years = omega (arith, h.more) in
+      let own = own_rows h.kept.own in
       run_told run.calendar (run.first_year + 1) (run.years - 1) (run.count - oldest) (rw on (omega (arith, own_count h.kept.own, count, is_oldest, h.oldest_held)))
+      (record { days = row_moved (held_first (its_rules run)) own.days; dates = row_moved (held_last (its_rules run)) own.dates })

@@ -5,7 +5,10 @@ use mathlib.Core.List.{List}
 use Prim.Native.Nat.{ℕ, ◌+◌, ◌<◌}
 use native.Mathlib.Omega.{arith}
 use lib.ListN.{get_or, set}
-use Rattle.answers.specs.Answer.{Answer}
+use Rattle.std.specs.Prelude.{Result, Ok}
+use Rattle.answers.specs.declared.Refusal.{Refusal}
+use Rattle.answers.specs.Answer.{told}
+use Rattle.answers.proofs.Answers.{one_told}
 use Rattle.months_rules.specs.FirstMonths.{first_month}
 use Rattle.months_rules.proofs.Calendars.{steady}
 use Rattle.months.specs.Months.{month_count, year_with}
@@ -20,7 +23,6 @@ use Rattle.calendar_month.proofs.Covered.{month_covering}
 use Rattle.calendar_year.specs.declared.Month.{Month}
 use Rattle.calendar_year.specs.declared.Year.{Year}
 use Rattle.calendar_year.specs.Years.{listed, year_in, year_of}
-use Rattle.calendar_year.specs.Answers.{year_answer}
 use Rattle.calendar_year.proofs.Covered.{year_room}
 use Rattle.calendar_year.proofs.Refusals.{year_given}
 use Rattle.calendar_year.proofs.YearLaws.{listed_at}
@@ -57,27 +59,17 @@ none_held c first =
     run_told c first 0 0 (rw here (omega arith)) (empty_rows {run = empty_run c first} refl (rules_for c) (first_month (rules_for c) first))
 
 -- a run that has the content of so many years from a first one on
-module _ (c first : ℕ) (run : Run) (e : run ≡ run_of c first run.years) where
-  calendar_is : run.calendar ≡ c
-  unfolding run_of
-  calendar_is = ap (λ (x : Run). x.calendar) e
-
-  first_is : run.first_year ≡ first
-  unfolding run_of
-  first_is = ap (λ (x : Run). x.first_year) e
-
+module _ (c first held : ℕ) {run : Run} (e : run ≡ run_of c first held) where
   -- .. and not yet of all that are to be held
-  pub still_extendable : (years : ℕ) → CoveredYears c first years → run.years < years → Extendable run
+  pub still_extendable : (years : ℕ) → CoveredYears c first years → held < years → Extendable run
+  unfolding run_of
   still_extendable years room more =
-      let next : CoveredYears c first (run.years + 1) = record { known = room.known; from = room.from; to = omega (arith, room.to, more); at_most_14 = omega (arith, room.at_most_14, more) } in
-      record { own = e ∙ rw (calendar_is, first_is); room = rw (calendar_is, first_is) next }
+      rw e (record { own = refl; room = record { known = room.known; from = room.from; to = omega (arith, room.to, more); at_most_14 = omega (arith, room.at_most_14, more) } })
 
   -- a year more makes the run of a year more
-  pub one_year_more : (after : Run) → after ≡ run_of run.calendar run.first_year (run.years + 1) → (after.years ≡ run.years + 1) × (after ≡ run_of c first after.years)
+  pub one_year_more : {after : Run} → after ≡ run_of run.calendar run.first_year (run.years + 1) → after ≡ run_of c first (held + 1)
   unfolding run_of
-  one_year_more after f =
-      let number : after.years ≡ run.years + 1 = ap (λ (x : Run). x.years) f in
-      (number, f ∙ rw (calendar_is, first_is, number))
+  one_year_more f = rw e at f
 
 -- ---- the year after a run's last
 
@@ -92,8 +84,8 @@ module _ {run : Run} (h : Extendable run) where
   is_covered_lem : is_covered (its_rules run) year ≡ true
   is_covered_lem = covered_year_tested (its_rules run) year next_covered
 
-  pub next_answered : (year_answer (year_of run.calendar year)).year ≡ year_in (its_rules run) year
-  next_answered = ap (λ (a : Answer Year). (year_answer a).year) ((year_given run.calendar year _).if ((h.room.known, (is_covered_lem, tt)), refl))
+  pub next_answered : (answer : Result Year Refusal) → told answer ≡ year_of run.calendar year → answer ≡ Ok (year_in (its_rules run) year)
+  next_answered answer e = one_told answer (Ok (year_in (its_rules run) year)) (e ∙ (year_given run.calendar year _).if ((h.room.known, (is_covered_lem, tt)), refl))
 
   module _ {next : Year} (is_next : next ≡ year_in (its_rules run) year) where
     next_count : next.count ≡ month_count (its_rules run) year
@@ -130,7 +122,13 @@ module _ {run : Run} {next : Year} (h : NextYear run next) where
       rw on
       (one_month_more rows (omega (arith, inside, h.fits)) (rw (h.year, ← here) (first_listed run.calendar _ i d covered in_year_lem)) (e ∙ rw (h.year, ← here) (last_listed run.calendar _ i d covered in_year_lem)))
 
+  -- what is put down in the two rows leaves the rest of a run as it was
+  pub others_kept : {after : Run} {days dates : List ℕ} → after ≡ record run { first_days = after.first_days; last_dates = after.last_dates } → record after { first_days = days; last_dates = dates } ≡ record run { first_days = days; last_dates = dates }
+  others_kept {days = days} {dates} e = ap (λ (x : Run). record x { first_days = days; last_dates = dates }) e
+
   -- all of them together make the run that is longer by the year
-  pub year_held : {days dates : List ℕ} → Rows (its_rules run) (its_first run) (run.count + next.count) days dates
-      → record { calendar = run.calendar; first_year = run.first_year; years = run.years + 1; count = run.count + next.count; first_days = days; last_dates = dates } ≡ run_of run.calendar run.first_year (run.years + 1)
-  year_held = run_told run.calendar run.first_year (run.years + 1) (run.count + next.count) (ends h.extendable h.year)
+  pub year_held : {after : Run} → after ≡ record run { first_days = after.first_days; last_dates = after.last_dates } → Rows (its_rules run) (its_first run) (run.count + next.count) after.first_days after.last_dates
+      → record after { years = after.years + 1; count = after.count + next.count } ≡ run_of run.calendar run.first_year (run.years + 1)
+  year_held others rows =
+      ap (λ (x : Run). record x { years = x.years + 1; count = x.count + next.count }) others
+      ∙ run_told run.calendar run.first_year (run.years + 1) (run.count + next.count) (ends h.extendable h.year) rows

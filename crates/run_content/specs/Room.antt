@@ -1,5 +1,5 @@
 -- What inner functions ask of their callers, which have made sure of it, and what they find. No rule of the run.
-use Rattle.std.specs.Prelude.{◌≡◌, true, ℕ, ◌+◌, ◌<◌, ◌≤◌}
+use Rattle.std.specs.Prelude.{◌≡◌, true, List, ◌++◌, ℕ, ◌+◌, ◌-◌, ◌<◌, ◌≤◌, take, drop, replicate}
 use Rattle.months.specs.Months.{month_count}
 use Rattle.calendar_range.specs.Range.{is_calendar, rules_for}
 use Rattle.calendar_date.specs.Dates.{date_number}
@@ -50,3 +50,7 @@ pub record Droppable (run : Run) : Type 0 where
 -- the last date of a month as a year lists it, as one number
 abbrev pub last_date_of : ℕ → Month → ℕ
 last_date_of y m = date_number (record { year = y; month = m.number; leap = m.leap; day = m.length })
+
+-- of so many used places all but the first stand at the front, and zeros in those that they leave
+abbrev pub moved_up : List ℕ → ℕ → ℕ → List ℕ
+moved_up l first used = take (used - first) (drop first l) ++ (replicate first 0 ++ drop used l)

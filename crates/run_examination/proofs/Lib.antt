@@ -1,4 +1,3 @@
 pub mod Same
 pub mod Examined
-pub mod Steps
 pub mod OneAnswer

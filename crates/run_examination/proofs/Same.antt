@@ -1,10 +1,11 @@
 -- The test that two runs are the same tells what is one from what is not.
-use mathlib.Core.Path.{◌≡◌, ap}
-use mathlib.Core.Bool.{true, and-eq-true_iff}
-use mathlib.Core.List.{List}
+use mathlib.Core.Path.{◌≡◌, refl, ap}
+use mathlib.Core.Bool.{Bool, true, false, ◌&&◌, and-eq-true_iff}
+use mathlib.Core.List.{List, [], ◌∷◌}
 use Prim.Native.Nat.{ℕ}
 use lib.Dec.{eqb}
 use lib.ListN.{get_or}
+use Rattle.std.specs.Cmp.Lexicographic.{pointwise}
 use Rattle.numbers.specs.Same.{same_by}
 use Rattle.numbers.proofs.Same.{Tells, tells_numbers, tells_lists}
 use Rattle.run_content.specs.declared.Run.{Run}
@@ -36,3 +37,24 @@ tells_runs = record { one = one; itself = itself }
 
     itself : (a : Run) → same_run a a ≡ true
     itself a = rw (tells_places.itself (head a), tells_places.itself a.first_days, tells_places.itself a.last_dates)
+
+-- ---- what `==` says of two runs, field by field
+
+same_places : (l m : List ℕ) → pointwise eqb l m ≡ same_by eqb l m
+unfolding same_by
+same_places [] [] = refl
+same_places [] (y ∷ ys) = refl
+same_places (x ∷ xs) [] = refl
+same_places (x ∷ xs) (y ∷ ys) = rw (same_places xs ys)
+
+-- the head is a list
+listed : (c f y n days dates : Bool) → (c && (f && (y && (n && (days && dates))))) ≡ ((c && (f && (y && (n && true)))) && (days && dates))
+listed true true true true days dates = refl
+listed true true true false days dates = refl
+listed true true false n days dates = refl
+listed true false y n days dates = refl
+listed false f y n days dates = refl
+
+pub field_by_field : (a b : Run) → (eqb a.calendar b.calendar && (eqb a.first_year b.first_year && (eqb a.years b.years && (eqb a.count b.count && (pointwise eqb a.first_days b.first_days && pointwise eqb a.last_dates b.last_dates))))) ≡ same_run a b
+unfolding same_run same_by
+field_by_field a b = rw (same_places a.first_days b.first_days, same_places a.last_dates b.last_dates) (listed (eqb a.calendar b.calendar) (eqb a.first_year b.first_year) (eqb a.years b.years) (eqb a.count b.count) (same_by eqb a.first_days b.first_days) (same_by eqb a.last_dates b.last_dates))

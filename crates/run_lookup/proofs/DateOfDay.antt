@@ -1,11 +1,16 @@
 -- The date of a day in an examined run: the days that it holds are those of its months, and a day's date is told by its month's place.
 use mathlib.Core.Path.{◌≡◌, refl, sym, ◌∙◌}
-use mathlib.Core.Bool.{Bool, true, false, ◌&&◌, and-eq-true_iff}
+use mathlib.Core.Bool.{Bool, true, false, false≢true, ◌&&◌, and-eq-true_iff}
 use Prim.Native.Nat.{ℕ, ◌+◌, ◌-◌, ◌%◌, ◌<◌, ◌≤◌, ◌^◌}
 use native.Mathlib.Omega.{arith}
-use lib.ListN.{get_or}
+use lib.ListN.{length, get_or, take}
+use mathlib.Core.List.{List}
 use lib.Dec.{leb, ltb}
-use borrow.Author.Tests.{le-leb, lt-leb, lt-ltb, le-ltb, leb-true, ltb-true, ltb-false}
+use borrow.Author.Tests.{le-leb, lt-ltb, leb-true, leb-false, ltb-true, ltb-false}
+use Rattle.std.proofs.Common.{nat_cmp, is_le, is_lt}
+use Rattle.std.proofs.lemmas.Bool.Decides.{nat_tests}
+use Rattle.std.specs.List.Sorted.{IsPartitionedBy, IsPartitionPoint}
+use Rattle.std.proofs.lemmas.List.{get_or-take, get_or_default}
 use Rattle.numbers.specs.Spans.{Holds}
 use Rattle.numbers.proofs.Spans.{Growing, later, span_holds, span_is, span_from, span_before}
 use Rattle.months_rules.specs.Rules.{day_number}
@@ -20,11 +25,11 @@ use Rattle.calendar_date.specs.Dates.{is_covered_day, date_in}
 use Rattle.calendar_date.proofs.Covered.{covered_day_told, covered_day_tested}
 use Rattle.run_content.specs.declared.Run.{Run}
 use Rattle.run_content.specs.Room.{Kept}
-use Rattle.run_content.proofs.Content.{its_calendar, its_rules, its_first, own_count, own_covering, count_fits}
+use Rattle.run_content.proofs.Content.{its_calendar, its_rules, its_first, own_count, own_rows, own_covering}
 use Rattle.run_content.proofs.LastDates.{told}
 use Rattle.run_lookup.specs.Held.{holds_day, holds_year, PlaceHas, OnePlace}
-use Rattle.run_lookup.specs.Room.{OneBegun, LastBegun, day_after, date_in_month}
-use Rattle.run_lookup.proofs.Places.{held_year_told, some_month, starts, ends, ends_small}
+use Rattle.run_lookup.specs.Room.{LastBegun, day_after, date_in_month}
+use Rattle.run_lookup.proofs.Places.{held_year_told, some_month, used_length, starts, ends, ends_small}
 
 -- a day from its origin on, as a calendar counts
 abbrev whole : Run → ℕ → ℕ
@@ -37,6 +42,10 @@ pub record HeldDay (run : Run) (n : ℕ) : Type 0 where
   pub to : n < day_after run
 
 -- ---- which days are held
+
+-- as a range tests it
+in_range : (a b n : ℕ) → (is_le (nat_cmp a n) && is_lt (nat_cmp n b)) ≡ (leb a n && ltb n b)
+in_range a b n = grind (arith, nat_tests)
 
 module _ {run : Run} (kept : Kept run) where
   months_grow : Growing (its_rules run).start
@@ -55,24 +64,21 @@ module _ {run : Run} (kept : Kept run) where
 
   -- as the two tests tell it
   module _ (n : ℕ) where
-    tests : holds_day run n ≡ (leb (get_or run.first_days 0 0) n && ltb n (day_after run))
-    tests =
+    tested : holds_day run n ≡ (leb (get_or run.first_days 0 0) n && ltb n (day_after run))
+    tested =
         let stop : day_number (its_rules run) (first_day_of (its_rules run) (run.first_year + run.years)) ≡ day_after run = omega (arith, stops) in
         rw (begins, stop)
 
-    pub too_early : n < get_or run.first_days 0 0 → holds_day run n ≡ false
-    too_early h = tests ∙ rw (lt-leb _ _ h)
-
-    pub too_late : get_or run.first_days 0 0 ≤ n → day_after run ≤ n → holds_day run n ≡ false
-    too_late from h = tests ∙ rw (le-leb _ _ from, le-ltb _ _ h)
+    pub day_tested : {after : ℕ} {held : Bool} → after ≡ day_after run → held ≡ (is_le (nat_cmp (get_or run.first_days 0 0) n) && is_lt (nat_cmp n after)) → held ≡ holds_day run n
+    day_tested end held = held ∙ rw (end, tested) (in_range (get_or run.first_days 0 0) (day_after run) n)
 
     pub held_day_told : holds_day run n ≡ true → HeldDay run n
     held_day_told holds =
-        let (low, high) = (and-eq-true_iff (leb (get_or run.first_days 0 0) n) (ltb n (day_after run))).0 (sym tests ∙ holds) in
+        let (low, high) = (and-eq-true_iff (leb (get_or run.first_days 0 0) n) (ltb n (day_after run))).0 (sym tested ∙ holds) in
         record { kept = kept; from = leb-true _ _ low; to = ltb-true _ _ high }
 
 pub day_held : {run : Run} {n : ℕ} → HeldDay run n → holds_day run n ≡ true
-day_held {run} {n} day = tests day.kept n ∙ rw (le-leb _ _ day.from, lt-ltb _ _ day.to)
+day_held {run} {n} day = tested day.kept n ∙ rw (le-leb _ _ day.from, lt-ltb _ _ day.to)
 
 -- .. and as the months' spans do
 module _ {run : Run} (kept : Kept run) (n : ℕ) where
@@ -165,8 +171,38 @@ module _ {run : Run} {n : ℕ} (day : HeldDay run n) where
   pub day_small : n < 2 ^ 22
   day_small = omega (arith, day.to, ends_small kept (run.count - 1) (omega (arith, some_month kept)))
 
-  pub one_begun : OneBegun run.first_days run.count n
-  one_begun = record { some = some_month kept; at_most_174 = count_fits kept; first_begun = day.from }
+  abbrev used : List ℕ
+  used = take run.count run.first_days
+
+  all_used : length used ≡ run.count
+  all_used = used_length kept _ (own_rows kept.own).days
+
+  at_used : (i d : ℕ) → i < run.count → get_or used i d ≡ get_or run.first_days i 0
+  at_used i d h = get_or_default used i d 0 (rw all_used h) ∙ get_or-take run.count run.first_days i 0 h
+
+  -- the months' first days are in order, so that those that have begun come first
+  pub begun_first : IsPartitionedBy (λ first. leb first n) used
+  begun_first i j d h inside begun =
+      let in_run : j < run.count = rw all_used at inside in
+      let later_begun = leb-true _ n (rw (at_used j d in_run) at begun) in
+      let order = later _ (months_grow kept) (its_first run + i) (its_first run + j) (omega (arith, h)) in
+      rw (at_used i d (omega (arith, h, in_run))) (le-leb _ n (omega (arith, later_begun, order, starts kept i (omega (arith, h, in_run)), starts kept j in_run)))
+
+  -- the last of them is the day's
+  pub last_begun : (i : ℕ) → IsPartitionPoint (λ first. leb first n ≡ true) (λ first. leb first n ≡ false) used i → i ≤ length used → (1 ≤ i) × LastBegun run.first_days run.count n (i - 1)
+  last_begun i (begun, to_come) within =
+      let in_run : i ≤ run.count = rw all_used at within in
+      let first_begun : i ≡ 0 → ⊥ = λ none. false≢true (sym (to_come 0 0 (omega (arith, none)) (rw all_used (some_month kept))) ∙ rw (at_used 0 0 (some_month kept)) (le-leb _ _ day.from)) in
+      let some : 1 ≤ i = omega (arith, first_begun) in
+      let next : i - 1 + 1 ≡ i = omega (arith, some) in
+      let inside : i - 1 < run.count = omega (arith, some, in_run) in (
+        some,
+        record {
+          inside = inside;
+          begun = leb-true _ n (rw (at_used (i - 1) 0 inside) at (begun (i - 1) 0 (omega arith) (omega (arith, some))));
+          last = λ more. rw next (leb-false _ n (rw (at_used i 0 (rw next at more)) at (to_come i 0 (omega arith) (rw all_used (rw next at more)))));
+        },
+      )
 
   -- the last place that has begun has the day
   module _ {i : ℕ} (found : LastBegun run.first_days run.count n i) where

@@ -1,9 +1,16 @@
 -- The day of a date in an examined run: the date's month stands at one place, or at none if the year lacks it, and the place tells the day.
 use mathlib.Core.Path.{◌≡◌, refl, sym, ap, ◌∙◌}
 use mathlib.Core.Bool.{Bool, true, false}
-use Prim.Native.Nat.{ℕ, ◌+◌, ◌-◌, ◌/◌, ◌%◌, ◌<◌, ◌≤◌}
+use Prim.Native.Nat.{ℕ, zero, suc, ◌+◌, ◌-◌, ◌/◌, ◌%◌, ◌<◌, ◌≤◌}
 use native.Mathlib.Omega.{arith}
-use lib.ListN.{get_or}
+use mathlib.Core.List.{List, [], ◌∷◌}
+use lib.ListN.{length, get_or, take}
+use lib.Dec.{eqb}
+use Rattle.std.specs.Prelude.{Option, Some, None}
+use Rattle.std.specs.List.{position, position_or_len}
+use borrow.Author.Tests.{lt-ltb, eqb-true, eq-eqb}
+use Rattle.std.proofs.lemmas.List.{get_or-take}
+use Rattle.std.proofs.lemmas.List.Quantifiers.{position-Some}
 use Rattle.answers.specs.Conditions.{asking}
 use Rattle.months_rules.proofs.Calendars.{steady}
 use Rattle.months_rules.proofs.FirstMonths.{years_in_order}
@@ -21,13 +28,28 @@ use Rattle.calendar_date.specs.declared.Date.{Date}
 use Rattle.calendar_date.specs.Dates.{day_in, date_number}
 use Rattle.calendar_date.proofs.DateNumbers.{OneMonth, one_month, same_month}
 use Rattle.run_content.specs.declared.Run.{Run}
-use Rattle.run_content.proofs.Content.{its_calendar, its_rules, its_first, own_count, own_date, own_covering}
+use Rattle.run_content.proofs.Content.{its_calendar, its_rules, its_first, own_count, own_rows, own_date, own_covering}
 use Rattle.run_content.proofs.LastDates.{last_of, last_small, told}
-use Rattle.run_lookup.specs.declared.Place.{Place}
-use Rattle.run_lookup.specs.declared.Place.TheVariants.{At, Nowhere}
 use Rattle.run_lookup.specs.Held.{day_in_run}
-use Rattle.run_lookup.specs.Room.{HeldYear, FirstNamed, StandsAt, MonthPlace, day_at}
-use Rattle.run_lookup.proofs.Places.{held_year_told, held_year_covered, starts}
+use Rattle.run_lookup.specs.Room.{HeldYear, StandsAt, MonthPlace, day_at}
+use Rattle.run_lookup.proofs.Places.{held_year_told, held_year_covered, used_length, starts}
+
+-- the first place that passes a test is none behind one that does ..
+first_upto : (p : ℕ → Bool) (l : List ℕ) (j d : ℕ) → j < length l → p (get_or l j d) ≡ true → position_or_len p l ≤ j
+first_upto p [] j d h t = absurd (omega (arith, h))
+first_upto p (x ∷ l) zero d h t = rw t (omega arith)
+first_upto p (x ∷ l) (suc j) d h t = by_test (p x) refl (first_upto p l j d (omega (arith, h)) t)
+  where
+    by_test : (b : Bool) → p x ≡ b → position_or_len p l ≤ j → position_or_len p (x ∷ l) ≤ suc j
+    by_test true e later = rw e (omega arith)
+    by_test false e later = rw e (omega (arith, later))
+
+-- .. so that where none is found none does
+none_passes : (p : ℕ → Bool) (l : List ℕ) (j d : ℕ) → position p l ≡ None → j < length l → p (get_or l j d) ≡ true → ⊥
+none_passes p l j d e h t =
+    let below = lt-ltb (position_or_len p l) (length l) (omega (arith, first_upto p l j d h t, h)) in
+    let found = rw below at e in
+    cc
 
 -- what is asked of a month by its name is asked of any equal name
 of_name : {A : Type 0} (f : ℕ → Bool → A) {m n : ℕ} {k l : Bool} → m ≡ n → k ≡ l → f m k ≡ f n l
@@ -90,14 +112,23 @@ module _ {run : Run} {y : ℕ} (held : HeldYear run y) where
             month = sym (of_name (month_named (its_rules run) y) agrees.month agrees.leap) ∙ back.back;
           }
 
+    all_used : length (take run.count run.last_dates) ≡ run.count
+    all_used = used_length held.kept _ (own_rows held.kept.own).dates
+
     -- the first place with the name is the month's, and there is none if the year lacks it
-    pub found_named : m ≤ 12 → (p : Place) → FirstNamed run.last_dates run.count (date_number asked_date / 100) p → MonthPlace run y m leap p
-    found_named small (At i) at = named_here i small at.inside at.named
-    found_named small Nowhere none = by_test has refl
+    pub found_named : m ≤ 12 → MonthPlace run y m leap (position (λ last. eqb (last / 100) (date_number asked_date / 100)) (take run.count run.last_dates))
+    found_named small = by_place _ refl
       where
-        by_test : (h : Bool) → has ≡ h → has ≡ false
-        by_test true e = absurd (none (named - its_first run) (in_run e) (its_name e))
-        by_test false e = e
+        by_place : (p : Option ℕ) → position (λ last. eqb (last / 100) (date_number asked_date / 100)) (take run.count run.last_dates) ≡ p → MonthPlace run y m leap p
+        by_place (Some i) e =
+            let (inside, at, _) = position-Some _ (take run.count run.last_dates) i 0 e in
+            let in_run : i < run.count = rw all_used at inside in
+            named_here i small in_run (rw (get_or-take run.count run.last_dates i 0 in_run) at (eqb-true _ _ at))
+        by_place None e = by_test has refl
+          where
+            by_test : (h : Bool) → has ≡ h → has ≡ false
+            by_test true h = absurd (none_passes _ (take run.count run.last_dates) (named - its_first run) 0 e (rw all_used (in_run h)) (rw (get_or-take run.count run.last_dates (named - its_first run) 0 (in_run h)) (eq-eqb _ _ (its_name h))))
+            by_test false h = h
 
 -- a month's day is told by the place where it stands
 pub day_there : {run : Run} {y m : ℕ} {leap : Bool} {i : ℕ} → HeldYear run y → StandsAt run y m leap i → (d : ℕ) → day_in_run run y m leap d ≡ day_at run i d

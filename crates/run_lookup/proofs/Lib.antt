@@ -1,4 +1,3 @@
-pub mod Steps
 pub mod Places
 pub mod DateOfDay
 pub mod DayOfDate

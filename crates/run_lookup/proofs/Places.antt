@@ -1,11 +1,15 @@
 -- What stands at a place of an examined run: of one of its months, in order, the first day and the last date.
-use mathlib.Core.Path.{◌≡◌}
+use mathlib.Core.Path.{◌≡◌, ap}
 use mathlib.Core.Bool.{true, and-eq-true_iff}
+use mathlib.Core.List.{List}
 use Prim.Native.Nat.{ℕ, ◌+◌, ◌%◌, ◌<◌, ◌≤◌, ◌^◌}
 use native.Mathlib.Omega.{arith}
-use lib.ListN.{get_or}
+use lib.ListN.{length, get_or, take}
 use lib.Dec.{leb, ltb}
 use borrow.Author.Tests.{leb-true, ltb-true}
+use Rattle.std.proofs.lemmas.List.{length-take-le}
+use Rattle.numbers.specs.Places.{places}
+use Rattle.numbers.proofs.Places.{length_places}
 use Rattle.months_rules.proofs.Calendars.{steady}
 use Rattle.months_rules.proofs.FirstMonths.{years_in_order}
 use Rattle.months.specs.Room.{Covering}
@@ -16,7 +20,7 @@ use Rattle.calendar_range.proofs.Covered.{covered_year_tested}
 use Rattle.calendar_year.proofs.Covered.{year_room}
 use Rattle.run_content.specs.declared.Run.{Run}
 use Rattle.run_content.specs.Room.{Kept}
-use Rattle.run_content.proofs.Content.{its_calendar, its_rules, its_first, own_count, own_day, own_covering}
+use Rattle.run_content.proofs.Content.{its_calendar, its_rules, its_first, own_count, own_day, own_covering, count_fits}
 use Rattle.run_content.proofs.LastDates.{month_days, told}
 use Rattle.run_lookup.specs.Room.{HeldYear}
 
@@ -45,6 +49,12 @@ module _ {run : Run} (kept : Kept run) where
 
 pub held_year_covered : {run : Run} {y : ℕ} → HeldYear run y → is_covered (its_rules run) y ≡ true
 held_year_covered {run} {y} held = covered_year_tested (its_rules run) y (held_covered held.kept y (held_year_told held))
+
+-- ---- the used places of a row: one for each month
+
+pub used_length : {run : Run} → Kept run → (thing : ℕ → ℕ) {row : List ℕ} → row ≡ places 0 thing (its_first run) run.count 174 → length (take run.count row) ≡ run.count
+used_length {run} kept thing {row} e =
+    length-take-le run.count row (omega (arith, ap length e, length_places 0 thing (its_first run) run.count 174, count_fits kept))
 
 -- ---- a place
 

@@ -1,5 +1,5 @@
 -- What inner functions ask of their callers, which have made sure of it, and what they find. No rule of the run.
-use Rattle.std.specs.Prelude.{◌≡◌, Bool, true, false, ◌&&◌, List, [], ◌∷◌, ℕ, ◌+◌, ◌-◌, ◌/◌, ◌%◌, ◌<◌, ◌≤◌, get_or, leb}
+use Rattle.std.specs.Prelude.{◌≡◌, Bool, true, false, ◌&&◌, List, [], ◌∷◌, Option, Some, None, ℕ, ◌+◌, ◌-◌, ◌/◌, ◌%◌, ◌<◌, ◌≤◌, get_or, leb}
 use Rattle.answers.specs.Answer.{Answer}
 use Rattle.answers.specs.Conditions.{asking}
 use Rattle.months_rules.specs.FirstMonths.{first_month}
@@ -8,17 +8,9 @@ use Rattle.calendar_month.specs.Asked.{has_month, month_named}
 use Rattle.calendar_date.specs.declared.Date.{Date}
 use Rattle.run_content.specs.declared.Run.{Run}
 use Rattle.run_content.specs.Room.{Kept}
-use Rattle.run_lookup.specs.declared.Place.{Place}
-use Rattle.run_lookup.specs.declared.Place.TheVariants.{At, Nowhere}
 use Rattle.run_lookup.specs.Held.{holds_year}
 
 -- ---- what is asked
-
--- of so many places the first has begun by a day
-pub record OneBegun (l : List ℕ) (count day : ℕ) : Type 0 where
-  pub some : 1 ≤ count
-  pub at_most_174 : count ≤ 174
-  pub first_begun : get_or l 0 0 ≤ day
 
 -- the run was examined, and holds the year
 pub record HeldYear (run : Run) (y : ℕ) : Type 0 where
@@ -41,17 +33,6 @@ day_after run = get_or run.first_days (run.count - 1) 0 + get_or run.last_dates 
 abbrev pub date_in_month : ℕ → ℕ → Date
 date_in_month last d = record { year = last % 100000000 / 10000; month = last / 100 % 100; leap = leb 100000000 last; day = d }
 
--- place i has a last date of that name, but for the day, and no place before it has
-pub record NamedAt (l : List ℕ) (count name i : ℕ) : Type 0 where
-  pub inside : i < count
-  pub named : get_or l i 0 / 100 ≡ name
-  pub no_earlier : (j : ℕ) → j < i → get_or l j 0 / 100 ≡ name → ⊥
-
--- what `place_with_name` tells: the first such place, or that there is none
-abbrev pub FirstNamed : List ℕ → ℕ → ℕ → Place → Type 0
-FirstNamed l count name (At i) = NamedAt l count name i
-FirstNamed l count name Nowhere = (j : ℕ) → j < count → get_or l j 0 / 100 ≡ name → ⊥
-
 -- the month of that name stands at place i
 pub record StandsAt (run : Run) (y m : ℕ) (leap : Bool) (i : ℕ) : Type 0 where
   pub has : has_month (rules_for run.calendar) y m leap ≡ true
@@ -59,9 +40,9 @@ pub record StandsAt (run : Run) (y m : ℕ) (leap : Bool) (i : ℕ) : Type 0 whe
   pub month : month_named (rules_for run.calendar) y m leap ≡ first_month (rules_for run.calendar) run.first_year + i
 
 -- what `place_of_month` tells: where the month stands, or that the year lacks it
-abbrev pub MonthPlace : Run → ℕ → ℕ → Bool → Place → Type 0
-MonthPlace run y m leap (At i) = StandsAt run y m leap i
-MonthPlace run y m leap Nowhere = has_month (rules_for run.calendar) y m leap ≡ false
+abbrev pub MonthPlace : Run → ℕ → ℕ → Bool → Option ℕ → Type 0
+MonthPlace run y m leap (Some i) = StandsAt run y m leap i
+MonthPlace run y m leap None = has_month (rules_for run.calendar) y m leap ≡ false
 
 -- the day of a month that stands at place i, or the refusal
 unfoldable pub day_at : Run → ℕ → ℕ → Answer ℕ

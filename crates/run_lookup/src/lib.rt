@@ -1,49 +1,24 @@
-#![tactic(auto)]
+// Look-ups in an examined run.
+#![tactic(auto, using(run_content::proofs::Content::count_fits, crate::proofs::Places::some_month, crate::proofs::Places::ends_small), unfolding(answers::specs::Conditions::asking, crate::specs::Room::day_at, crate::specs::Held::day_in_run, crate::specs::Held::date_in_run))]
 
-ghost use Rattle.std.specs.Prelude.{◌≡◌, ◌<◌, ◌≤◌};
-ghost use Rattle.calendar_date.specs.Answers.{day_means, date_means};
+ghost use Rattle.std.specs.Prelude.{◌≡◌, ◌==◌, true, ◌/◌, ◌<◌, position};
+ghost use Rattle.answers.specs.Answer.{told};
 ghost use Rattle.run_content.specs.Room.{Kept};
-ghost use Rattle.run_lookup.specs.Held.{day_in_run, date_in_run};
-ghost use Rattle.run_lookup.specs.Room.{OneBegun, LastBegun, day_after, date_in_month, HeldYear, FirstNamed, MonthPlace, day_at};
+ghost use Rattle.run_lookup.specs.Held.{holds_year, holds_day, day_in_run, date_in_run};
+ghost use Rattle.run_lookup.specs.Room.{LastBegun, day_after, date_in_month, MonthPlace, day_at};
 
-use calendar_date::{Date, DateAnswer, DayAnswer};
+use answers::Refusal;
+use calendar_date::Date;
 use run_content::Run;
 
-// Where a month stands in a run.
+// A run that was examined, so that it has the content of its years. (Nothing compares or prints one.)
 #[derive(Clone, Copy)]
-enum Place {
-    At(usize),
-    Nowhere,
+pub struct KeptRun<'a> {
+    pub run: &'a Run,
+    pub ghost kept: { Kept run.now },
 }
 
-// The last place of those used whose month has begun by a day.
-fn place_of_day(first_days: &[u32; 174], count: usize, day: u32) -> usize
-    requires { OneBegun first_days.now count day }
-    ensures { LastBegun first_days.now count day result }
-{
-    let mut low: usize = 0;
-    let mut high = count;
-    while low + 1 < high {
-        let middle = (low + high) / 2;
-        if first_days[middle] <= day {
-            low = middle;
-        } else {
-            high = middle;
-        }
-    }
-    low
-}
-
-// The day after a run's last.
-fn day_after(run: Run) -> u32
-    requires { Kept run }
-    ensures { result ≡ day_after run }
-{
-    let last = run.count as usize - 1;
-    run.first_days[last] + run.last_dates[last] % 100
-}
-
-// The date of a day of a month that is told by its last date.
+// The date of a day of a month that is told by its last date. (It takes the day besides, so that it is no `From`.)
 fn date_in_month(last_date: u32, day: u8) -> Date
     ensures { result ≡ date_in_month last_date day }
 {
@@ -55,88 +30,89 @@ fn date_in_month(last_date: u32, day: u8) -> Date
     }
 }
 
-// The date of a day, looked up in an examined run.
-pub fn date_in_run(run: Run, day: u64) -> DateAnswer
-    requires { Kept run }
-    ensures { date_means result ≡ date_in_run run day }
+// The first place whose month has a name, told as a date's number without the day.
+fn place_with_name(last_dates: &[u32], name: u32) -> Option<usize>
+    ensures { result ≡ position (λ last. last / 100 == name) last_dates.now }
 {
-    let first_days = run.first_days;
-    if day < first_days[0] as u64 {
-        return DateAnswer::Refused(5);
-    }
-    if day_after(run) as u64 <= day {
-        return DateAnswer::Refused(5);
-    }
-    let place = place_of_day(&first_days, run.count as usize, day as u32);
-    let number = day - first_days[place] as u64 + 1;
-    DateAnswer::Date(date_in_month(run.last_dates[place], number as u8))
+    last_dates
+        .iter()
+        .position(|last_date| *last_date / 100 == name)
 }
 
-// The first used place whose month has a name, told as a date's number without the day.
-fn place_with_name(last_dates: &[u32; 174], count: usize, name: u32) -> Place
-    requires { count ≤ 174 }
-    ensures { FirstNamed last_dates.now count name result }
-{
-    let mut place: usize = 0;
-    while place < count {
-        if last_dates[place] / 100 == name {
-            return Place::At(place);
+impl KeptRun<'_> {
+    // The last of the used places whose month has begun by a day.
+    fn place_of_day(self, day: u32) -> usize
+        requires { holds_day self.run.now day ≡ true }
+        ensures { LastBegun self.entry.run.now.first_days self.entry.run.now.count day result }
+    {
+        let first_days = &self.run.first_days[..self.run.count as usize];
+        first_days.partition_point(|first_day| *first_day <= day) - 1
+    }
+
+    // The day after its last.
+    fn day_after(self) -> u32
+        ensures { result ≡ day_after self.entry.run.now }
+    {
+        let last = self.run.count as usize - 1;
+        self.run.first_days[last] + self.run.last_dates[last] % 100
+    }
+
+    // The date of one of its days.
+    pub fn date_of(self, day: u64) -> Result<Date, Refusal>
+        ensures { told result ≡ date_in_run self.entry.run.now day }
+    {
+        let days = self.run.first_days[0] as u64..self.day_after() as u64;
+        if !days.contains(&day) {
+            return Err(Refusal::DayNotCovered);
         }
-        place += 1;
+        let place = self.place_of_day(day as u32);
+        let number = day - self.run.first_days[place] as u64 + 1;
+        Ok(date_in_month(self.run.last_dates[place], number as u8))
     }
-    Place::Nowhere
-}
 
-// The place of a month of a year that an examined run holds.
-fn place_of_month(run: Run, year: u64, month: u64, leap: bool) -> Place
-    requires { HeldYear run year }
-    ensures { MonthPlace run year month leap result }
-{
-    if 12 < month {
-        return Place::Nowhere;
+    // The place of a month of one of its years.
+    fn place_of_month(self, year: u64, month: u64, leap: bool) -> Option<usize>
+        requires { holds_year self.run.now year ≡ true }
+        ensures { MonthPlace self.entry.run.now year month leap result }
+    {
+        if 12 < month {
+            return None;
+        }
+        let date = Date {
+            year: year as u16,
+            month: month as u8,
+            leap,
+            day: 0,
+        };
+        place_with_name(
+            &self.run.last_dates[..self.run.count as usize],
+            calendar_date::date_number(date) / 100,
+        )
     }
-    let date = Date {
-        year: year as u16,
-        month: month as u8,
-        leap,
-        day: 0,
-    };
-    let last_dates = run.last_dates;
-    place_with_name(
-        &last_dates,
-        run.count as usize,
-        calendar_date::date_number(date) / 100,
-    )
-}
 
-// The day of a month that stands at a place.
-fn day_at(run: Run, place: usize, day: u64) -> DayAnswer
-    requires kept { Kept run }
-    requires place_lt_count { place < run.count }
-    ensures { day_means result ≡ day_at run place day }
-{
-    if day < 1 {
-        return DayAnswer::Refused(4);
+    // The day of a month that stands at a place.
+    fn day_at(self, place: usize, day: u64) -> Result<u32, Refusal>
+        requires { place < self.run.now.count }
+        ensures { told result ≡ day_at self.entry.run.now place day }
+    {
+        if !(1..=(self.run.last_dates[place] % 100) as u64).contains(&day) {
+            return Err(Refusal::NoSuchDay);
+        }
+        Ok((self.run.first_days[place] as u64 + day - 1) as u32)
     }
-    if ((run.last_dates[place] % 100) as u64) < day {
-        return DayAnswer::Refused(4);
-    }
-    DayAnswer::Day((run.first_days[place] as u64 + day - 1) as u32)
-}
 
-// The day of a date, looked up in an examined run.
-pub fn day_in_run(run: Run, year: u64, month: u64, leap: bool, day: u64) -> DayAnswer
-    requires { Kept run }
-    ensures { day_means result ≡ day_in_run run year month leap day }
-{
-    if year < run.first_year as u64 {
-        return DayAnswer::Refused(2);
+    // The day of a date of one of its years.
+    pub fn day_of(self, year: u64, month: u64, leap: bool, day: u64) -> Result<u32, Refusal>
+        ensures { told result ≡ day_in_run self.entry.run.now year month leap day }
+    {
+        let first_year = self.run.first_year as u64;
+        let years = first_year..first_year + self.run.years as u64;
+        if !years.contains(&year) {
+            return Err(Refusal::YearNotCovered);
+        }
+        let Some(place) = self.place_of_month(year, month, leap) else {
+            return Err(Refusal::NoSuchMonth);
+        };
+        self.day_at(place, day)
     }
-    if run.first_year as u64 + run.years as u64 <= year {
-        return DayAnswer::Refused(2);
-    }
-    let Place::At(place) = place_of_month(run, year, month, leap) else {
-        return DayAnswer::Refused(3);
-    };
-    day_at(run, place, day)
 }

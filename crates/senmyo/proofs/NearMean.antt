@@ -1,10 +1,10 @@
 -- How near every new moon is to its mean, by the bounds of the corrections, and what that tells of every month.
 use Prim.Native.Nat.{ℕ, ◌+◌, ◌-◌, ◌*◌, ◌<◌, ◌≤◌}
 use native.Mathlib.Omega.{arith}
-use Rattle.numbers.proofs.Order.{≤ℤ-mul, moved_between}
+use Rattle.std.proofs.lemmas.Int.{ints}
 use Rattle.numbers.proofs.Spans.{Growing}
-use Rattle.units.specs.Units.{whole_days}
-use Rattle.senmyo_means.specs.Means.{mean_full_moon}
+use Rattle.units.specs.Units.{whole_days, fen_to_byo}
+use Rattle.senmyo_means.specs.Means.{mean_new_moon, mean_full_moon}
 use Rattle.senmyo.specs.Phases.{new_moon, new_moon_day}
 use Rattle.senmyo.specs.FullMoons.{full_moon_fen}
 use Rattle.senmyo.specs.Room.{latest_month, sure_month}
@@ -12,7 +12,7 @@ use Rattle.senmyo.proofs.PhaseLaws.{corrections_between, new_moon_exact, full_mo
 
 -- where new moon k lies, beside its mean
 beside_mean : (k : ℕ) → ((new_moon k).0 ≤ 248057 * k + 4751) × (248057 * k ≤ (new_moon k).0 + 4721)
-beside_mean k = moved_between _ _ 4721 4751 (new_moon_exact k) (corrections_between _)
+beside_mean k = omega (arith, ints, new_moon_exact k, corrections_between (fen_to_byo (mean_new_moon k)))
 
 pub new_moon_small : (k : ℕ) → (new_moon k).0 ≤ 248057 * k + 4751
 new_moon_small k = (beside_mean k).0
@@ -53,6 +53,6 @@ pub record InMidst (k : ℕ) : Type 0 where
 
 pub full_moon_day : (k : ℕ) → InMidst k
 full_moon_day k =
+    let moment = full_moon_exact k in
     let both = corrections_between (mean_full_moon k) in
-    let moment = moved_between _ _ 37768 38008 (full_moon_exact k) (record { from = ≤ℤ-mul 8 both.from; to = ≤ℤ-mul 8 both.to }) in
-    record { from = omega (arith, near_mean k); to = omega (arith, near_mean k) }
+    record { from = omega (arith, ints, near_mean k); to = omega (arith, ints, near_mean k) }

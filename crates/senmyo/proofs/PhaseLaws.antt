@@ -7,10 +7,10 @@ use borrow.Author.Tests.{ltb-true, ltb-false, leb-true, leb-false, le-leb, lt-le
 use lib.Dec.{ltb, leb}
 use lib.IntN.{pos, ◌+ℤ◌}
 use lib.Signed.{◌≤ℤ◌}
+use Rattle.std.proofs.lemmas.Int.{ints}
 use Rattle.numbers.specs.Sign.{minus}
 use Rattle.numbers.specs.Between.{Between}
-use Rattle.numbers.proofs.Difference.{is_pos, is_add, is_mul, is_parts}
-use Rattle.numbers.proofs.Order.{is_le, le_is, pos_le, ≤ℤ-add, ≤ℤ-mul, whole_exact}
+use Rattle.numbers.proofs.Order.{whole_exact}
 use Rattle.numbers.proofs.Size.{Small, small_between, small_mul, word, Worked, told_word}
 use Rattle.units.specs.declared.Byo.{Byo}
 use Rattle.units.specs.declared.Fen.{Fen}
@@ -45,7 +45,7 @@ unfolding corrections
 corrections_between m =
     let sun = sun_bounds m in
     let moon = moon_bounds (byo_to_anomaly_seconds m) in
-    record { from = ≤ℤ-add sun.from moon.from; to = ≤ℤ-add sun.to moon.to }
+    record { from = omega (arith, ints, sun, moon); to = omega (arith, ints, sun, moon) }
 
 corrections_small : (m : Byo) → Small (corrections m) (4721 + 4751)
 corrections_small m = small_between 4721 4751 (corrections_between m)
@@ -66,16 +66,13 @@ after_start m = by_day (ltb m.0 day_byo) refl
     by_day : (b : Bool) → ltb m.0 day_byo ≡ b → pos 0 ≤ℤ (pos m.0 +ℤ correction_to_byo (corrections m))
     by_day true e =
         let early = ltb-true m.0 day_byo e in
-        ≤ℤ-add (pos_le {m = 0} (omega arith)) (≤ℤ-mul 8 (≤ℤ-add (sun_first_day m early) (moon_first_day _ (omega arith))))
+        omega (arith, ints, sun_first_day m early, moon_first_day (byo_to_anomaly_seconds m) (omega arith))
     by_day false e =
-        ≤ℤ-add (pos_le {m = 4721 * 8} (omega (arith, ltb-false m.0 day_byo e))) (≤ℤ-mul 8 (corrections_between m).from)
+        omega (arith, ints, ltb-false m.0 day_byo e, (corrections_between m).from)
 
 -- .. and in fen, from a mean new moon, which is of whole fen
 pub new_moon_after_start : (k : ℕ) → pos 0 ≤ℤ (pos (mean_new_moon k).0 +ℤ corrections (fen_to_byo (mean_new_moon k)))
-new_moon_after_start k =
-    let both = is_parts (corrections (fen_to_byo (mean_new_moon k))) in
-    let room = le_is (is_pos 0) (is_add (is_pos (248057 * k * 8)) (is_mul 8 both)) (after_start (fen_to_byo (mean_new_moon k))) in
-    is_le (is_pos 0) (is_add (is_pos (248057 * k)) both) (omega (arith, room))
+new_moon_after_start k = omega (arith, ints, after_start (fen_to_byo (mean_new_moon k)))
 
 -- ---- moments told by naturals
 

@@ -7,12 +7,13 @@ use borrow.Author.Tests.{leb-false}
 use lib.Dec.{ltb, leb}
 use lib.IntN.{ℤ, pos, ◌+ℤ◌, ◌*ℤ◌}
 use lib.Signed.{◌≤ℤ◌}
+use Rattle.std.specs.Prelude.{Option, Some, None}
+use Rattle.std.proofs.lemmas.Int.{ints}
 use Rattle.numbers.specs.Sign.{minus}
 use Rattle.numbers.specs.Rounding.{nearest}
 use Rattle.numbers.specs.Between.{Between}
-use Rattle.numbers.proofs.Difference.{is_pos, is_neg, is_add, is_mul, is_parts, is_same}
-use Rattle.numbers.proofs.Order.{is_le, le_is, ≤ℤ-mul, moved_between, whole_exact}
-use Rattle.numbers.proofs.Size.{Small, small_low, small_high}
+use Rattle.numbers.proofs.Order.{≤ℤ-mul, whole_exact}
+use Rattle.numbers.proofs.Size.{word, told_word, Small, small_low, small_high}
 use Rattle.numbers.proofs.Rounding.{nearest_mono, nearest_whole}
 use Rattle.units.specs.declared.Fen.{Fen}
 use Rattle.units.specs.Units.{fen, byo_to_anomaly_seconds, day_fen}
@@ -20,14 +21,21 @@ use Rattle.senmyo_means.specs.Means.{mean_full_moon}
 use Rattle.senmyo_moon.proofs.Rows.{change_small}
 use Rattle.senmyo_node.specs.Eclipse.{Graded, total_eclipse, partial_eclipse, no_eclipse, grade_of}
 use Rattle.senmyo.specs.FullMoons.{full_moon_fen, full_moon_node}
+use Rattle.senmyo.proofs.PhaseLaws.{node_within}
 use Rattle.senmyo.proofs.NearMean.{full_moon_day, near_mean}
 use Rattle.senmyo_hours.specs.declared.Times.{Times}
-use Rattle.senmyo_hours.specs.declared.Eclipsed.{Eclipsed}
-use Rattle.senmyo_hours.specs.declared.Eclipsed.TheVariants.{At, Not}
-use Rattle.senmyo_hours.specs.declared.Parts.{Parts}
-use Rattle.senmyo_hours.specs.declared.Parts.TheVariants.{Whole, None}
 use Rattle.senmyo_hours.specs.Hours.{is_eclipse, whole_parts, mean_length, length_of, times_from, grade_at, change_at, times_at, eclipse_at, InOrder}
 use Rattle.senmyo_hours.specs.Room.{parts_of, Timed}
+
+-- ---- what is there only if something holds
+
+some_if : {A : Type 0} (b : Bool) (a x : A) → elim b as (λ _. Option A) [ true ↦ Some a | false ↦ None ] ≡ Some x → (b ≡ true) × (a ≡ x)
+some_if true a x e = (refl, cc)
+some_if false a x e = (cc, cc)
+
+none_if : {A : Type 0} (b : Bool) (a : A) → elim b as (λ _. Option A) [ true ↦ Some a | false ↦ None ] ≡ None → b ≡ false
+none_if true a e = cc
+none_if false a e = refl
 
 -- ---- the parts
 
@@ -49,21 +57,13 @@ parts_small d = by_limit (ltb d.0 9737)
     by_limit false = omega arith
 
 -- .. and parts are found exactly where there is an eclipse
-is_none : (b : Bool) (p : ℕ) → elim b as (λ _. Parts) [ true ↦ Whole p | false ↦ None ] ≡ None → b ≡ false
-is_none true p e = cc
-is_none false p e = refl
-
-is_whole : (b : Bool) (p n : ℕ) → elim b as (λ _. Parts) [ true ↦ Whole p | false ↦ None ] ≡ Whole n → (b ≡ true) × (p ≡ n)
-is_whole true p n e = (refl, cc)
-is_whole false p n e = (cc, cc)
-
 none_told : (g : Graded) → parts_of g ≡ None → is_eclipse g ≡ false
 unfolding parts_of
-none_told g e = is_none _ _ e
+none_told g e = none_if _ _ e
 
-parts_told : (g : Graded) (n : ℕ) → parts_of g ≡ Whole n → (is_eclipse g ≡ true) × (whole_parts g ≡ n)
+parts_told : (g : Graded) (n : ℕ) → parts_of g ≡ Some n → (is_eclipse g ≡ true) × (whole_parts g ≡ n)
 unfolding parts_of
-parts_told g n e = is_whole _ _ n e
+parts_told g n e = some_if _ _ _ e
 
 -- ---- the length
 
@@ -74,10 +74,8 @@ never_half n e = omega (arith, e)
 -- a change of less than a day's fen makes a length longer or shorter by no more than itself
 pub share_between : (mean : ℕ) {change : ℤ} → Small change day_fen → Between (minus mean) (nearest (change *ℤ pos mean) day_fen) (pos mean)
 share_between mean s =
-    let low : minus day_fen *ℤ pos mean ≡ minus mean *ℤ pos day_fen =
-    is_same (is_mul mean (is_neg (is_pos day_fen))) (is_mul day_fen (is_neg (is_pos mean))) (omega arith) in
-    let high : pos day_fen *ℤ pos mean ≡ pos mean *ℤ pos day_fen =
-    is_same (is_mul mean (is_pos day_fen)) (is_mul day_fen (is_pos mean)) (omega arith) in
+    let low : minus day_fen *ℤ pos mean ≡ minus mean *ℤ pos day_fen = grind (arith, ints) in
+    let high : pos day_fen *ℤ pos mean ≡ pos mean *ℤ pos day_fen = grind (arith, ints) in
     record {
       from = rw (low, nearest_whole (minus mean) day_fen (omega arith)) at (nearest_mono day_fen (omega arith) (≤ℤ-mul mean (small_low s)));
       to = rw (high, nearest_whole (pos mean) day_fen (omega arith)) at (nearest_mono day_fen (omega arith) (≤ℤ-mul mean (small_high s)));
@@ -86,10 +84,7 @@ share_between mean s =
 module _ (parts : ℕ) (change : ℤ) (s : Small change day_fen) where
   -- .. so that it is not below zero
   pub length_above : pos 0 ≤ℤ (pos (mean_length parts) +ℤ nearest (change *ℤ pos (mean_length parts)) day_fen)
-  length_above =
-      let mean = mean_length parts in
-      let share = is_parts (nearest (change *ℤ pos mean) day_fen) in
-      is_le (is_pos 0) (is_add (is_pos mean) share) (omega (arith, le_is (is_neg (is_pos mean)) share (share_between mean s).from))
+  length_above = omega (arith, ints, (share_between (mean_length parts) s).from)
 
   -- nothing is cut off
   pub length_exact : pos (length_of parts change).0 ≡ pos (mean_length parts) +ℤ nearest (change *ℤ pos (mean_length parts)) day_fen
@@ -97,7 +92,7 @@ module _ (parts : ℕ) (change : ℤ) (s : Small change day_fen) where
   length_exact = whole_exact _ length_above
 
   pub length_small : (length_of parts change).0 ≤ 2 * mean_length parts
-  length_small = omega (arith, moved_between _ (mean_length parts) (mean_length parts) (mean_length parts) length_exact (share_between (mean_length parts) s))
+  length_small = omega (arith, ints, length_exact, (share_between (mean_length parts) s).to)
 
 -- ---- the times
 
@@ -146,35 +141,34 @@ module _ (k : ℕ) where
 
 -- ---- the eclipse, as its parts tell it
 
-abbrev told : Bool → Times → Eclipsed
-told b times = elim b [ true ↦ At times | false ↦ Not ]
+abbrev told : Bool → Times → Option Times
+told b times = elim b [ true ↦ Some times | false ↦ None ]
 
-pub eclipse_none : (k : ℕ) → parts_of (grade_at k) ≡ None → Not ≡ eclipse_at k
+pub eclipse_none : (k : ℕ) → parts_of (grade_at k) ≡ None → None ≡ eclipse_at k
 unfolding eclipse_at
 eclipse_none k e = ap (λ b. told b (times_at k)) (sym (none_told (grade_at k) e))
 
-pub parts_few : (k n : ℕ) → parts_of (grade_at k) ≡ Whole n → n ≤ 15
+pub parts_few : (k n : ℕ) → parts_of (grade_at k) ≡ Some n → n ≤ 15
 parts_few k n e = rw (parts_told (grade_at k) n e).1 at (parts_small (full_moon_node k).distance)
 
-pub eclipse_parts : (k n : ℕ) → parts_of (grade_at k) ≡ Whole n → At (times_from (full_moon_fen k) (length_of n (change_at k))) ≡ eclipse_at k
+pub eclipse_parts : (k n : ℕ) → parts_of (grade_at k) ≡ Some n → Some (times_from (full_moon_fen k) (length_of n (change_at k))) ≡ eclipse_at k
 unfolding times_at eclipse_at
 eclipse_parts k n e =
     let parts = parts_told (grade_at k) n e in
-    ap (λ m. At (times_from (full_moon_fen k) (length_of m (change_at k)))) (sym parts.1) ∙ ap (λ b. told b (times_at k)) (sym parts.0)
+    ap (λ m. Some (times_from (full_moon_fen k) (length_of m (change_at k)))) (sym parts.1) ∙ ap (λ b. told b (times_at k)) (sym parts.0)
 
 -- .. and what it tells of them
-is_not : (b : Bool) (times : Times) → told b times ≡ Not → b ≡ false
-is_not true times e = cc
-is_not false times e = refl
-
-is_at : (b : Bool) (times found : Times) → told b times ≡ At found → (b ≡ true) × (times ≡ found)
-is_at true times found e = (refl, cc)
-is_at false times found e = (cc, cc)
-
-pub not_eclipsed : (k : ℕ) → eclipse_at k ≡ Not → is_eclipse (grade_at k) ≡ false
+pub not_eclipsed : (k : ℕ) → eclipse_at k ≡ None → is_eclipse (grade_at k) ≡ false
 unfolding eclipse_at
-not_eclipsed k e = is_not (is_eclipse (grade_at k)) (times_at k) e
+not_eclipsed k e = none_if (is_eclipse (grade_at k)) (times_at k) e
 
-pub eclipsed_at : (k : ℕ) (found : Times) → eclipse_at k ≡ At found → (is_eclipse (grade_at k) ≡ true) × (times_at k ≡ found)
+pub eclipsed_at : (k : ℕ) (found : Times) → eclipse_at k ≡ Some found → (is_eclipse (grade_at k) ≡ true) × (times_at k ≡ found)
 unfolding eclipse_at
-eclipsed_at k found e = is_at (is_eclipse (grade_at k)) (times_at k) found e
+eclipsed_at k found e = some_if (is_eclipse (grade_at k)) (times_at k) found e
+
+-- the change in a day is read back from its word as it is
+pub change_back : (k : ℕ) {change : ℤ} → change ≡ change_at k → word change ≡ change_at k
+change_back k e = (told_word e (change_in_day k) (omega arith)).same
+
+-- what the code needs of each step from a full moon to its eclipse's times
+pub ruleset eclipse_steps = (node_within, change_small, change_back, parts_few, eclipse_none, eclipse_parts)

@@ -1,5 +1,5 @@
 -- Hours of a lunar eclipse (02, request 2; 000, section 3, without the extra half ke for deep eclipses).
-use Rattle.std.specs.Prelude.{Bool, true, false, ℕ, ◌+◌, ◌-◌, ◌*◌, ◌/◌, ◌≤◌, ℤ, pos, ◌+ℤ◌, ◌*ℤ◌}
+use Rattle.std.specs.Prelude.{Bool, true, false, Option, Some, None, ℕ, ◌+◌, ◌-◌, ◌*◌, ◌/◌, ◌≤◌, ℤ, pos, ◌+ℤ◌, ◌*ℤ◌}
 use Rattle.numbers.specs.Sign.{whole}
 use Rattle.numbers.specs.Rounding.{nearest}
 use Rattle.units.specs.declared.Fen.{Fen}
@@ -9,8 +9,6 @@ use Rattle.senmyo_moon.specs.Daily.{change_of}
 use Rattle.senmyo_node.specs.Eclipse.{none, total, partial, Graded, grade_of}
 use Rattle.senmyo.specs.FullMoons.{full_moon_fen, full_moon_node}
 use Rattle.senmyo_hours.specs.declared.Times.{Times}
-use Rattle.senmyo_hours.specs.declared.Eclipsed.{Eclipsed}
-use Rattle.senmyo_hours.specs.declared.Eclipsed.TheVariants.{At, Not}
 
 -- there is an eclipse, if only one of 0 parts, weak
 abbrev pub is_eclipse : Graded → Bool
@@ -50,8 +48,8 @@ unfoldable pub times_at : ℕ → Times
 times_at k = times_from (full_moon_fen k) (length_of (whole_parts (grade_at k)) (change_at k))
 
 -- .. if there is an eclipse
-unfoldable pub eclipse_at : ℕ → Eclipsed
-eclipse_at k = elim (is_eclipse (grade_at k)) [ true ↦ At (times_at k) | false ↦ Not ]
+unfoldable pub eclipse_at : ℕ → Option Times
+eclipse_at k = elim (is_eclipse (grade_at k)) [ true ↦ Some (times_at k) | false ↦ None ]
 
 -- ---- what is proved of every eclipse (HourLaws)
 

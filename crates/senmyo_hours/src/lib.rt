@@ -12,7 +12,7 @@ use units::{FEN_IN_DAY, Fen};
 const FEN_IN_PART: u64 = 112;
 
 // How long an eclipse lasts, and its start, middle and end, counted from the start of the count.
-#[derive(Clone, Copy)]
+#[derive(Clone, Copy, Debug, PartialEq, Eq)]
 pub struct Times {
     pub length: Fen,
     pub start: Fen,
@@ -20,27 +20,15 @@ pub struct Times {
     pub end: Fen,
 }
 
-// The times of an eclipse, if there is one.
-#[derive(Clone, Copy)]
-pub enum Eclipsed {
-    At(Times),
-    Not,
-}
-
 // The parts of an eclipse as a whole number, if there is one.
-#[derive(Clone, Copy)]
-enum Parts {
-    Whole(u64),
-    None,
-}
-
-fn whole_parts(grade: Grade) -> Parts
+#[tactic(auto, unfolding(crate::specs::Room::parts_of))]
+fn whole_parts(grade: Grade) -> Option<u64>
     ensures { result ≡ parts_of (grade_means grade) }
 {
     match grade {
-        Grade::None => Parts::None,
-        Grade::Total => Parts::Whole(15),
-        Grade::Partial(share) => Parts::Whole(share.parts as u64 + share.strong as u64),
+        Grade::None => None,
+        Grade::Total => Some(15),
+        Grade::Partial(share) => Some(share.parts as u64 + share.strong as u64),
     }
 }
 
@@ -52,9 +40,10 @@ fn length_of(parts: u64, change: i64) -> Fen
 {
     let mean = FEN_IN_PART * parts;
     let more = numbers::nearest_of(change * (mean as i64), FEN_IN_DAY);
-    Fen((mean as i64 + more) as u64)
+    Fen(mean.strict_add_signed(more))
 }
 
+#[tactic(auto, unfolding(crate::specs::Hours::times_from))]
 fn times_from(middle: Fen, length: Fen) -> Times
     requires { Timed middle length }
     ensures { result ≡ times_from middle length }
@@ -69,16 +58,15 @@ fn times_from(middle: Fen, length: Fen) -> Times
     }
 }
 
-// The eclipse of the full moon after new moon `number`. The Moon's speed is that at the mean full moon, as its correction is.
-pub fn eclipse_at(number: u32) -> Eclipsed
+// The times of the eclipse of the full moon after new moon `number`, if there is one. The Moon's speed is that at the mean full moon, as its correction is.
+#[tactic(auto, unfolding(senmyo::specs::FullMoons::full_moon_sky), using(crate::proofs::HourLaws::eclipse_steps))]
+pub fn eclipse_at(number: u32) -> Option<Times>
     ensures { result ≡ eclipse_at number }
 {
     let sky = senmyo::full_moon_sky(number);
     let node = senmyo_node::node_of(sky.node);
-    let Parts::Whole(parts) = whole_parts(senmyo_node::grade_of(node.distance)) else {
-        return Eclipsed::Not;
-    };
+    let parts = whole_parts(senmyo_node::grade_of(node.distance))?;
     let change = senmyo_moon::change_of(units::byo_to_anomaly_seconds(sky.mean));
     let length = length_of(parts, change);
-    Eclipsed::At(times_from(units::byo_to_fen(sky.moment), length))
+    Some(times_from(units::byo_to_fen(sky.moment), length))
 }

@@ -10,10 +10,10 @@ use lib.Dec.{T, leb, ltb, leb→le}
 use lib.IntN.{ℤ, pos, neg_ℤ, nat_abs, ◌*ℤ◌, neg_ℤ-+ℤ, +ℤ_idr, *ℤ-zero}
 use lib.Signed.{◌≤ℤ◌}
 use mir.Facts.{and_yes}
+use Rattle.std.proofs.lemmas.Int.{ints}
 use Rattle.numbers.specs.Sign.{plus, minus}
 use Rattle.numbers.specs.Rounding.{nearest}
 use Rattle.numbers.specs.Between.{Between}
-use Rattle.numbers.proofs.Difference.{is_neg, is_mul, is_parts, is_equal}
 use Rattle.numbers.proofs.Size.{Small}
 use Rattle.numbers.proofs.Rounding.{ends, between_ends, nearest_pos, nearest_whole}
 use Rattle.numbers.proofs.Tests.{every, every_row, at_each_row}
@@ -53,7 +53,7 @@ at_place told at = by_half (ltb h half_period.0) refl
 
 -- (−z) n is −(z n)
 neg_times : (z : ℤ) (n : ℕ) → neg_ℤ z *ℤ pos n ≡ neg_ℤ (z *ℤ pos n)
-neg_times z n = sym (is_equal (is_mul n (is_neg (is_parts z)))) ∙ is_equal (is_neg (is_mul n (is_parts z)))
+neg_times z n = grind (arith, ints)
 
 rounded_share : (upper : Bool) (change : ℤ) (sum : ℕ) (t length : HalfSecond) →
     nearest (signed upper (sum_after sum change t length).numerator) length.0 ≡ rounded_part (signed upper change, signed upper (plus sum)) t length

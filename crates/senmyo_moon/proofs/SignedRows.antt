@@ -68,3 +68,6 @@ pub in_loss : (upper : Bool) (day : ℕ) (t : HalfSecond) → day ≡ 6 → gain
 unfolding upper_rows lower_rows stand_in
 in_loss true day t e h = rw (e, le-ltb t.0 gaining_in7.0 h, stand_in)
 in_loss false day t e h = rw (e, le-ltb t.0 gaining_in7.0 h, stand_in)
+
+-- .. and that is every place in the table
+pub ruleset stretches = (in_whole_day, in_last, in_gain, in_loss)

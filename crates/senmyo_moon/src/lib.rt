@@ -8,10 +8,10 @@ ghost use Rattle.senmyo_moon.specs.Room.{stand_on, first_row, first_row_at, leng
 use units::{AnomalySecond, FEN_IN_DAY};
 
 // Half an anomaly second, 1/200 fen: the half period is not whole in anomaly seconds.
-#[derive(Clone, Copy)]
+#[derive(Clone, Copy, PartialEq, Eq, PartialOrd, Ord)]
 struct HalfSecond(u64);
 
-// A row, or a part of row 7, under the sign of its half, in fen: its change, and the sum before it.
+// A row, or a part of row 7, under the sign of its half, in fen: its change, and the sum before it. With names it would take four lines of its table.
 #[derive(Clone, Copy)]
 struct SignedRow(i64, i64);
 
@@ -23,7 +23,8 @@ struct RowPlace {
     over: HalfSecond,
 }
 
-// A stretch of the table along which the correction changes evenly: a day, a part of row 7, or what stands for a day in row 14.
+// A stretch of the table along which the correction changes evenly: a day, a part of row 7, or what stands for a day in row 14. (Nothing compares or prints
+// what is private here, so that it derives no more.)
 #[derive(Clone, Copy)]
 enum Stretch {
     WholeDay,
@@ -65,6 +66,7 @@ const LOSING_IN_7: HalfSecond = HalfSecond(935 * HALF_SECONDS_IN_FEN);
 
 const DAY_OF_14: HalfSecond = HalfSecond(6529 * HALF_SECONDS_IN_FEN);
 
+// A named conversion, as those of `units` are.
 fn seconds_to_half_seconds(moment: AnomalySecond) -> HalfSecond
     requires { moment.0 * 2 < 2 ^ 64 }
     ensures { result ≡ seconds_to_half_seconds moment }
@@ -73,42 +75,44 @@ fn seconds_to_half_seconds(moment: AnomalySecond) -> HalfSecond
 }
 
 // 003, Table 4, row by row: in the upper half a gain is positive and a loss negative; in the lower every sign is turned.
+static SIGNED_ROWS: [SignedRow; 28] = [
+    // upper half
+    SignedRow(830, 0),
+    SignedRow(726, 830),
+    SignedRow(606, 1556),
+    SignedRow(471, 2162),
+    SignedRow(337, 2633),
+    SignedRow(202, 2970),
+    SignedRow(53, 3172),
+    SignedRow(-82, 3218),
+    SignedRow(-224, 3136),
+    SignedRow(-366, 2912),
+    SignedRow(-509, 2546),
+    SignedRow(-643, 2037),
+    SignedRow(-748, 1394),
+    SignedRow(-646, 646),
+    // lower half
+    SignedRow(-830, 0),
+    SignedRow(-726, -830),
+    SignedRow(-598, -1556),
+    SignedRow(-464, -2154),
+    SignedRow(-329, -2618),
+    SignedRow(-195, -2947),
+    SignedRow(-53, -3142),
+    SignedRow(82, -3188),
+    SignedRow(225, -3106),
+    SignedRow(366, -2881),
+    SignedRow(501, -2515),
+    SignedRow(628, -2014),
+    SignedRow(740, -1386),
+    SignedRow(646, -646),
+];
+
 fn signed_row(place: usize) -> SignedRow
     requires { place < 28 }
     ensures { result ≡ first_row_at place }
 {
-    match place {
-        // upper half
-        0 => SignedRow(830, 0),
-        1 => SignedRow(726, 830),
-        2 => SignedRow(606, 1556),
-        3 => SignedRow(471, 2162),
-        4 => SignedRow(337, 2633),
-        5 => SignedRow(202, 2970),
-        6 => SignedRow(53, 3172),
-        7 => SignedRow(-82, 3218),
-        8 => SignedRow(-224, 3136),
-        9 => SignedRow(-366, 2912),
-        10 => SignedRow(-509, 2546),
-        11 => SignedRow(-643, 2037),
-        12 => SignedRow(-748, 1394),
-        13 => SignedRow(-646, 646),
-        // lower half
-        14 => SignedRow(-830, 0),
-        15 => SignedRow(-726, -830),
-        16 => SignedRow(-598, -1556),
-        17 => SignedRow(-464, -2154),
-        18 => SignedRow(-329, -2618),
-        19 => SignedRow(-195, -2947),
-        20 => SignedRow(-53, -3142),
-        21 => SignedRow(82, -3188),
-        22 => SignedRow(225, -3106),
-        23 => SignedRow(366, -2881),
-        24 => SignedRow(501, -2515),
-        25 => SignedRow(628, -2014),
-        26 => SignedRow(740, -1386),
-        _ => SignedRow(646, -646),
-    }
+    SIGNED_ROWS[place]
 }
 
 // One look-up, whichever half: which one is as good as chance, and a branch on it would be mispredicted every other time.
@@ -124,9 +128,9 @@ fn row_of(upper: bool, day: usize) -> SignedRow
 fn losing_row(upper: bool) -> SignedRow
     ensures { result ≡ (stand_on upper 6 gaining_in7).row }
 {
-    let row = row_of(upper, DAY_7);
+    let SignedRow(gain, sum) = row_of(upper, DAY_7);
     let loss = if upper { -7 } else { 7 };
-    SignedRow(loss, row.1 + row.0)
+    SignedRow(loss, sum + gain)
 }
 
 // sum + change × over / length, rounded.
@@ -134,7 +138,8 @@ fn rounded(row: SignedRow, over: HalfSecond, length: HalfSecond) -> i64
     requires { RoundableRow row over length }
     ensures { result ≡ rounded_part row over length }
 {
-    let numerator = row.1 * (length.0 as i64) + row.0 * (over.0 as i64);
+    let SignedRow(change, sum) = row;
+    let numerator = sum * (length.0 as i64) + change * (over.0 as i64);
     numbers::nearest_of(numerator, length.0)
 }
 
@@ -144,49 +149,54 @@ fn place_of(at: AnomalySecond) -> RowPlace
     let into = seconds_to_half_seconds(AnomalySecond(at.0 % PERIOD.0));
     let rest = into.0 % HALF_PERIOD.0;
     RowPlace {
-        upper: into.0 < HALF_PERIOD.0,
+        upper: into < HALF_PERIOD,
         day: (rest / DAY.0) as usize,
         over: HalfSecond(rest % DAY.0),
     }
 }
 
 // Where in the table a moment stands. At 7465 fen of row 7 that is the loss already.
+#[tactic(auto, using(crate::proofs::SignedRows::stretches, crate::proofs::Rows::day_small))]
 fn stand_at(at: AnomalySecond) -> Stand
     ensures { result ≡ stand_at at }
 {
-    let place = place_of(at);
-    let over = place.over;
-    if place.day == DAY_7 {
-        if over.0 < GAINING_IN_7.0 {
-            let row = row_of(place.upper, DAY_7);
-            let stretch = Stretch::GainingIn7;
-            return Stand { row, over, stretch };
-        }
-        let row = losing_row(place.upper);
-        let over = HalfSecond(over.0 - GAINING_IN_7.0);
-        let stretch = Stretch::LosingIn7;
-        return Stand { row, over, stretch };
+    let RowPlace { upper, day, over } = place_of(at);
+    match day {
+        DAY_7 if over < GAINING_IN_7 => Stand {
+            row: row_of(upper, DAY_7),
+            over,
+            stretch: Stretch::GainingIn7,
+        },
+        DAY_7 => Stand {
+            row: losing_row(upper),
+            over: HalfSecond(over.0 - GAINING_IN_7.0),
+            stretch: Stretch::LosingIn7,
+        },
+        DAY_14 => Stand {
+            row: row_of(upper, day),
+            over,
+            stretch: Stretch::DayOf14,
+        },
+        _ => Stand {
+            row: row_of(upper, day),
+            over,
+            stretch: Stretch::WholeDay,
+        },
     }
-    let row = row_of(place.upper, place.day);
-    if place.day == DAY_14 {
-        let stretch = Stretch::DayOf14;
-        return Stand { row, over, stretch };
-    }
-    let stretch = Stretch::WholeDay;
-    Stand { row, over, stretch }
 }
 
-// The correction where a moment stands. Each way names its length, so that the compiler divides by constants alone.
+// The correction where a moment stands. Each way names its length, so that the compiler divides by constants alone. (A const parameter is no
+// `HalfSecond`.)
 fn rounded_at(stand: Stand) -> i64
     requires { RoundableRow stand.row stand.over (length_of stand.stretch) }
     ensures { result ≡ rounded_at stand }
 {
-    let stretch = stand.stretch;
+    let Stand { row, over, stretch } = stand;
     match stretch {
-        Stretch::WholeDay => rounded(stand.row, stand.over, DAY),
-        Stretch::GainingIn7 => rounded(stand.row, stand.over, GAINING_IN_7),
-        Stretch::LosingIn7 => rounded(stand.row, stand.over, LOSING_IN_7),
-        Stretch::DayOf14 => rounded(stand.row, stand.over, DAY_OF_14),
+        Stretch::WholeDay => rounded(row, over, DAY),
+        Stretch::GainingIn7 => rounded(row, over, GAINING_IN_7),
+        Stretch::LosingIn7 => rounded(row, over, LOSING_IN_7),
+        Stretch::DayOf14 => rounded(row, over, DAY_OF_14),
     }
 }
 
@@ -198,9 +208,10 @@ pub fn moon_of(at: AnomalySecond) -> i64
 }
 
 // How the signed correction changes in a day at such a moment, in fen.
+#[tactic(auto, using(crate::proofs::Rows::change_at_lem, crate::proofs::Rows::change_small, numbers::proofs::Size::told_word))]
 pub fn change_of(at: AnomalySecond) -> i64
     ensures { result ≡ change_of at }
 {
-    let row = stand_at(at).row;
-    row.0
+    let SignedRow(change, _) = stand_at(at).row;
+    change
 }

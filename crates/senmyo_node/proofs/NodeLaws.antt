@@ -1,23 +1,25 @@
 -- Laws of the node's place: the corrections fit their words, what is brought back is within the period, and the distance is rounded by adding half.
-use mathlib.Core.Path.{◌≡◌, refl, sym, ap, ◌∙◌}
+use mathlib.Core.Path.{◌≡◌, refl, sym, ap}
 use mathlib.Core.Bool.{Bool, true, false}
-use Prim.Native.Nat.{ℕ, ◌+◌, ◌-◌, ◌/◌, ◌%◌, ◌<◌, ◌≤◌, min}
+use Prim.Native.Nat.{ℕ, ◌+◌, ◌-◌, ◌/◌, ◌<◌, ◌≤◌, min}
 use native.Mathlib.Omega.{arith}
 use borrow.Author.Tests.{lt-ltb, le-ltb}
-use lib.IntN.{ℤ, pos, ◌+ℤ◌, ◌*ℤ◌}
+use lib.IntN.{ℤ, pos, ◌*ℤ◌, nat_abs}
 use lib.Signed.{◌≤ℤ◌}
+use mir.Syntax.{w64}
+use mir.Facts.{to_z-of_z}
+use Rattle.std.proofs.Common.{FitsSigned}
+use Rattle.std.proofs.lemmas.Int.{ints}
 use Rattle.numbers.specs.Sign.{minus}
-use Rattle.numbers.specs.Rounding.{nearest, modulo}
-use Rattle.numbers.proofs.Difference.{Is, is_pos, is_add, is_mul, is_parts, is_sub, is_one, is_same}
-use Rattle.numbers.proofs.Order.{pos_le, ≤ℤ-add, ≤ℤ-mul}
-use Rattle.numbers.proofs.Size.{Small, small_between, small_low, small_high}
-use Rattle.numbers.proofs.Rounding.{nearest_mono, modulo_told, modulo_below}
+use Rattle.numbers.specs.Rounding.{nearest}
+use Rattle.numbers.proofs.Size.{word, Small, small_between}
+use Rattle.numbers.proofs.Rounding.{nearest_mono, modulo_below}
 use Rattle.units.specs.declared.Byo.{Byo}
 use Rattle.units.specs.Units.{fen}
 use Rattle.senmyo_node.specs.declared.NodeSecond.{NodeSecond}
 use Rattle.senmyo_node.specs.declared.Side.TheVariants.{Yang, Yin}
 use Rattle.senmyo_node.specs.declared.Node.{Node}
-use Rattle.senmyo_node.specs.Eclipse.{node_seconds, fen_node_seconds, byo_to_node_seconds, node_period, half_node_period, moon_share, node_place, in_half, distance_of, node_of}
+use Rattle.senmyo_node.specs.Eclipse.{node_seconds, fen_node_seconds, node_period, half_node_period, moon_share, node_place, in_half, distance_of, node_of}
 
 -- ---- the corrections
 
@@ -32,28 +34,22 @@ share_most = refl
 -- the Moon's share of a correction of at most 10,000 fen
 pub share_small : {moon : ℤ} → Small moon 10000 → Small (moon_share moon) (785 + 785)
 share_small {moon} s =
+    let from : (minus 10000 *ℤ pos 202) ≤ℤ (moon *ℤ pos 202) = omega (arith, ints, s.size) in
+    let to : (moon *ℤ pos 202) ≤ℤ (pos 10000 *ℤ pos 202) = omega (arith, ints, s.size) in
     small_between 785 785
-    (record {
-      from = rw share_least at (nearest_mono 2573 (omega arith) (≤ℤ-mul 202 (small_low s)));
-      to = rw share_most at (nearest_mono 2573 (omega arith) (≤ℤ-mul 202 (small_high s)));
-    })
+    (record { from = rw share_least at (nearest_mono 2573 (omega arith) from); to = rw share_most at (nearest_mono 2573 (omega arith) to) })
+
+-- the Moon's share, of a correction read from its word
+pub share_told : (moon : ℤ) {share : ℤ} → nat_abs moon ≤ 10000 → share ≡ moon_share (word moon) → (share ≡ moon_share moon) × (nat_abs share ≤ 1570)
+share_told moon h e =
+    let fits : FitsSigned w64 moon = omega (arith, ints) in
+    let same = rw (to_z-of_z fits) at e in
+    let small : Small moon 10000 = record { size = h } in
+    (same, rw same (share_small small).size)
+
+pub ruleset shares = (ints, share_told)
 
 -- ---- the place
-
--- a correction takes less than a period
-pub after_start : (n : ℕ) {z : ℤ} → Small z (10000 + (785 + 785)) → pos 0 ≤ℤ (pos (n + node_period.0) +ℤ z *ℤ pos fen_node_seconds)
-after_start n s = ≤ℤ-add (pos_le {m = 115700000} (omega arith)) (≤ℤ-mul fen_node_seconds (small_low s))
-
--- a period more, so that it is not below zero, is brought back to the same
-pub place_told : (mean : Byo) (sun moon : ℤ) (n : ℕ) → pos n ≡ pos ((byo_to_node_seconds mean).0 % node_period.0 + node_period.0) +ℤ (sun +ℤ moon_share moon) *ℤ pos fen_node_seconds → node_seconds (n % node_period.0) ≡ node_place mean sun moon
-unfolding node_place
-place_told mean sun moon n e =
-    let past = (byo_to_node_seconds mean).0 % node_period.0 in
-    let parts = is_mul fen_node_seconds (is_parts (sun +ℤ moon_share moon)) in
-    let later : Is (pos (past + node_period.0) +ℤ (sun +ℤ moon_share moon) *ℤ pos fen_node_seconds) n 0 = rw e at (is_pos n) in
-    let sum = is_one later (is_add (is_pos (past + node_period.0)) parts) in
-    let same = is_same (is_add (is_pos past) parts) (is_sub n node_period.0) (omega (arith, sum)) in
-    ap node_seconds (sym (ap (λ z. modulo z node_period.0) same ∙ modulo_told (is_sub n node_period.0)))
 
 -- the place is within the period
 pub place_within : (mean : Byo) (sun moon : ℤ) → (node_place mean sun moon).0 < node_period.0

@@ -5,7 +5,7 @@ use Prim.Native.Nat.{ℕ, suc, ◌+◌, ◌*◌, ◌<◌, ◌≤◌}
 use native.Mathlib.Numerals.{add-one}
 use native.Mathlib.Omega.{arith}
 use lib.ListN.{length, get_or, set, take, drop}
-use lib.Seq.{sets, sets-eq, take-suc, length-take-le}
+use lib.Seq.{sets, sets-eq, paste, take-suc, take_all, length-take-le}
 use Rattle.calendar_year.specs.declared.Month.{Month}
 use Rattle.calendar_year.specs.Years.{no_month}
 use Rattle.sieveflicker_numbers.specs.Numbers.{month_numbers, places_numbers}
@@ -20,6 +20,10 @@ module _ {A : Type 0} where
 
   pub fourth_store : (out : List A) (place : ℕ) (a b c d : A) → set (sets out place (a ∷ b ∷ c ∷ [])) (place + 3) d ≡ sets out place (a ∷ b ∷ c ∷ d ∷ [])
   fourth_store out place a b c d = ap (λ n. set (sets out place (a ∷ b ∷ c ∷ [])) n d) (omega arith)
+
+  -- numbers copied into a part are stored there one by one
+  pub pasted : (out numbers : List A) (place : ℕ) → place + length numbers ≤ length out → paste out place numbers (length numbers) ≡ sets out place numbers
+  pasted out numbers place fits = rw (sets-eq numbers out place fits, take_all (length numbers) numbers (omega arith))
 
   -- numbers stored behind numbers are stored together
   pub sets_append : (out : List A) (place : ℕ) (xs ys : List A) → sets (sets out place xs) (place + length xs) ys ≡ sets out place (xs ++ ys)

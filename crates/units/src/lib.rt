@@ -14,21 +14,22 @@ pub const BYO_IN_DAY: u64 = FEN_IN_DAY * BYO_IN_FEN;
 const FEN_IN_KE: u64 = 84;
 
 // 1/8,400 of a day.
-#[derive(Clone, Copy)]
+#[derive(Clone, Copy, Debug, PartialEq, Eq, PartialOrd, Ord)]
 pub struct Fen(pub u64);
 
 // 1/8 fen.
-#[derive(Clone, Copy)]
+#[derive(Clone, Copy, Debug, PartialEq, Eq, PartialOrd, Ord)]
 pub struct Byo(pub u64);
 
 // 1/100 fen.
-#[derive(Clone, Copy)]
+#[derive(Clone, Copy, Debug, PartialEq, Eq, PartialOrd, Ord)]
 pub struct AnomalySecond(pub u64);
 
 // 1/100 of a day.
-#[derive(Clone, Copy)]
+#[derive(Clone, Copy, Debug, PartialEq, Eq, PartialOrd, Ord)]
 pub struct Ke(pub u64);
 
+// One unit becomes another by a named function, as 01 asks; a `From` could not require that the product fits its word.
 pub fn fen_to_byo(moment: Fen) -> Byo
     requires { moment.0 * 8 < 2 ^ 64 }
     ensures { result ≡ fen_to_byo moment }

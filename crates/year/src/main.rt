@@ -19,11 +19,11 @@ fn read_byte(input: &mut impl Read) -> io::Result<Option<u8>> {
 fn read_line(input: &mut impl Read, buffer: &mut [u8]) -> io::Result<usize>
     ensures { IfOk result (λ read. read ≤ length buffer.new) }
 {
-    for read in 0..buffer.len() {
+    for (read, place) in buffer.iter_mut().enumerate() {
         let Some(byte) = read_byte(input)? else {
             return Ok(read);
         };
-        buffer[read] = byte;
+        *place = byte;
         if byte == b'\n' {
             return Ok(read + 1);
         }

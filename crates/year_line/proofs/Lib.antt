@@ -3,4 +3,5 @@ pub mod Digits
 pub mod Laws
 pub mod Figures
 pub mod Passed
+pub mod Missing
 pub mod OneAnswer

@@ -1,17 +1,16 @@
--- Two answers that mean the same are one, so that a contract that says what an answer means fixes it.
+-- Two results that tell the same are one, so that a contract that says what a result tells fixes it.
 use mathlib.Core.Path.{◌≡◌}
+use Rattle.std.specs.Prelude.{Result}
 use Rattle.numbers.specs.OneResult.{OneResult}
 use Rattle.numbers.proofs.OneResult.{one}
-use Rattle.year_line.specs.declared.LineAnswer.{LineAnswer}
-use Rattle.year_line.specs.declared.LineAnswer.TheVariants as AnswerVariants
-use Rattle.year_line.specs.Line.{means}
+use Rattle.answers.specs.declared.Refusal.{Refusal}
+use Rattle.answers.specs.Answer.{told}
+use Rattle.answers.proofs.Answers.{one_told}
+use Rattle.year_line.specs.declared.Line.{Line}
 use Rattle.year_line.proofs.line_of.Reads as Line-of
 
-pub one_line : (x y : LineAnswer) → means x ≡ means y → x ≡ y
-one_line (AnswerVariants.Line x) (AnswerVariants.Line y) h = cc
-one_line (AnswerVariants.Line x) (AnswerVariants.Refused n) h = cc
-one_line (AnswerVariants.Refused n) (AnswerVariants.Line y) h = cc
-one_line (AnswerVariants.Refused n) (AnswerVariants.Refused m) h = cc
+pub one_line : (x y : Result Line Refusal) → told x ≡ told y → x ≡ y
+one_line x y h = one_told x y h
 
 -- ---- what each public function promises leaves one answer
 

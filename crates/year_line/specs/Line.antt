@@ -1,11 +1,9 @@
 -- The line that a program reads: "two decimal numbers, each 1 to 9 digits, one space between, line end" (01, "Refusal numbers", 12). It ends with a
 -- line feed, and nothing that follows counts (01, "Worked figures").
 use Rattle.std.specs.Prelude.{◌≡◌, Bool, true, false, ◌&&◌, ◌||◌, List, [], ◌∷◌, ◌++◌, ◌⊎◌, ℕ, ◌+◌, ◌-◌, ◌*◌, ◌^◌, eqb, leb, length}
-use Rattle.answers.specs.Answer.{Answer, given, refused}
+use Rattle.answers.specs.Answer.{Answer}
 use Rattle.answers.specs.Conditions.{asking}
 use Rattle.year_line.specs.declared.Line.{Line}
-use Rattle.year_line.specs.declared.LineAnswer.{LineAnswer}
-use Rattle.year_line.specs.declared.LineAnswer.TheVariants as AnswerVariants
 
 abbrev pub line_feed : ℕ
 line_feed = 10
@@ -78,11 +76,6 @@ line_in bytes = numbers_in (first_line bytes)
 
 unfoldable pub line_of : List ℕ → Answer Line
 line_of bytes = asking (line_conditions bytes) (line_in bytes)
-
--- what an answer of `line_of` stands for
-abbrev pub means : LineAnswer → Answer Line
-means (AnswerVariants.Line line) = given line
-means (AnswerVariants.Refused number) = refused number
 
 -- ---- a line written out
 

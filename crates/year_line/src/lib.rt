@@ -1,102 +1,58 @@
 #![tactic(auto)]
 
 ghost use Rattle.std.specs.Prelude.{◌≡◌};
-ghost use Rattle.year_line.specs.Line.{is_digit, means, numbers_of, line_of};
+ghost use Rattle.answers.specs.Answer.{told};
+ghost use Rattle.year_line.specs.Line.{numbers_of, line_of};
 ghost use Rattle.year_line.specs.Room.{FirstPlace, NumberIn};
 
+use answers::Refusal;
+
 // What a line asks for.
-#[derive(Clone, Copy)]
+#[derive(Clone, Copy, Debug, PartialEq, Eq)]
 pub struct Line {
     pub calendar: u32,
     pub year: u32,
 }
 
-#[derive(Clone, Copy)]
-pub enum LineAnswer {
-    Line(Line),
-    Refused(u8),
-}
-
 // Where a byte stands first.
-#[derive(Clone, Copy)]
-enum Place {
-    At(usize),
-    Nowhere,
+fn place_of(stop: u8, bytes: &[u8]) -> Option<usize>
+    ensures { FirstPlace stop bytes.now result }
+{
+    bytes.iter().position(|byte| *byte == stop)
 }
 
 // The number that some bytes are, if they are one.
-#[derive(Clone, Copy)]
-enum Number {
-    Of(u32),
-    NotOne,
-}
-
-const NOT_A_LINE: u8 = 12;
-
-fn is_digit(byte: u8) -> bool
-    ensures { result ≡ is_digit byte }
-{
-    b'0' <= byte && byte <= b'9'
-}
-
-fn place_of(stop: u8, bytes: &[u8]) -> Place
-    ensures { FirstPlace stop bytes.now result }
-{
-    let mut place = 0;
-    while place < bytes.len() {
-        if bytes[place] == stop {
-            return Place::At(place);
-        }
-        place += 1;
-    }
-    Place::Nowhere
-}
-
 #[tactic(auto, using(crate::proofs::Passed::too_few, crate::proofs::Passed::too_many))]
-fn number_of(bytes: &[u8]) -> Number
+fn number_of(bytes: &[u8]) -> Option<u32>
     ensures { NumberIn bytes.now result }
 {
-    if bytes.len() < 1 {
-        return Number::NotOne;
+    if !(1..=9).contains(&bytes.len()) {
+        return None;
     }
-    if 9 < bytes.len() {
-        return Number::NotOne;
-    }
-    let mut value: u32 = 0;
-    let mut place = 0;
-    while place < bytes.len() {
-        let byte = bytes[place];
-        if !is_digit(byte) {
-            return Number::NotOne;
+    let mut value = 0;
+    for byte in bytes {
+        if !byte.is_ascii_digit() {
+            return None;
         }
-        value = value * 10 + (byte - b'0') as u32;
-        place += 1;
+        value = value * 10 + u32::from(*byte - b'0');
     }
-    Number::Of(value)
+    Some(value)
 }
 
 // The two numbers of a line, which comes without its line feed.
-fn numbers_of(line: &[u8]) -> LineAnswer
-    ensures { means result ≡ numbers_of line.now }
+fn numbers_of(line: &[u8]) -> Result<Line, Refusal>
+    ensures { told result ≡ numbers_of line.now }
 {
-    let Place::At(space) = place_of(b' ', line) else {
-        return LineAnswer::Refused(NOT_A_LINE);
-    };
-    let Number::Of(calendar) = number_of(&line[..space]) else {
-        return LineAnswer::Refused(NOT_A_LINE);
-    };
-    let Number::Of(year) = number_of(&line[space + 1..]) else {
-        return LineAnswer::Refused(NOT_A_LINE);
-    };
-    LineAnswer::Line(Line { calendar, year })
+    let space = place_of(b' ', line).ok_or(Refusal::NoLine)?;
+    let calendar = number_of(&line[..space]).ok_or(Refusal::NoLine)?;
+    let year = number_of(&line[space + 1..]).ok_or(Refusal::NoLine)?;
+    Ok(Line { calendar, year })
 }
 
 // What the first line asks for. Nothing behind its line feed counts.
-pub fn line_of(bytes: &[u8]) -> LineAnswer
-    ensures { means result ≡ line_of bytes.now }
+pub fn line_of(bytes: &[u8]) -> Result<Line, Refusal>
+    ensures { told result ≡ line_of bytes.now }
 {
-    let Place::At(end) = place_of(b'\n', bytes) else {
-        return LineAnswer::Refused(NOT_A_LINE);
-    };
+    let end = place_of(b'\n', bytes).ok_or(Refusal::NoLine)?;
     numbers_of(&bytes[..end])
 }

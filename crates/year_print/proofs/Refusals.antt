@@ -1,17 +1,16 @@
 -- When the program gives a year and when it refuses, exactly: 12 before 1 before 2 (01, "Refusal numbers").
-use mathlib.Core.Path.{◌≡◌, ap, ◌∙◌}
+use mathlib.Core.Path.{◌≡◌, ap}
 use mathlib.Core.Bool.{true, false}
 use mathlib.Core.List.{List}
 use Prim.Native.Nat.{ℕ}
-use Rattle.answers.specs.Answer.{given, refused, then}
+use Rattle.std.specs.Prelude.{Result}
+use Rattle.answers.specs.declared.Refusal.{Refusal}
+use Rattle.answers.specs.Answer.{given, refused, refusal_in, told, then}
 use Rattle.answers.specs.Conditions.{AllHold, FirstFails, Exactly}
 use Rattle.answers.proofs.Conditions.{then_asking, given_exactly, refused_exactly}
 use Rattle.calendar_range.specs.Range.{is_calendar, rules_for, is_covered}
 use Rattle.calendar_year.specs.declared.Year.{Year}
-use Rattle.calendar_year.specs.declared.YearAnswer.{YearAnswer}
 use Rattle.calendar_year.specs.Years.{year_in, year_of}
-use Rattle.calendar_year.specs.Answers.{year_answer}
-use Rattle.calendar_year.proofs.Refusals.{year_number}
 use Rattle.year_line.specs.declared.Line.{Line}
 use Rattle.year_line.specs.Line.{line_in, line_of, LineAnd, NoLine}
 use Rattle.year_print.specs.Paper.{answer_conditions, answer_of, answer_refusal, year_refusal}
@@ -45,10 +44,10 @@ module _ (bytes : List ℕ) where
   unfolding line_of year_of answer_of
   answer_asked = then_asking _ _ _ _
 
--- a year's answer holds its refusal
-pub year_told : (calendar year : ℕ) (x : YearAnswer) → x ≡ year_answer (year_of calendar year) → x.refusal ≡ year_refusal calendar year
+-- a year's result tells its refusal
+pub year_told : (calendar year : ℕ) (x : Result Year Refusal) → told x ≡ year_of calendar year → refusal_in (told x) ≡ year_refusal calendar year
 unfolding year_refusal
-year_told calendar year x e = ap (λ (x : YearAnswer). x.refusal) e ∙ year_number (year_of calendar year)
+year_told c y x e = ap refusal_in e
 
 -- what is refused of a line's year is refused of the bytes that the line stands in ..
 pub line_told : (bytes : List ℕ) (line : Line) → given line ≡ line_of bytes → year_refusal line.calendar line.year ≡ answer_refusal bytes

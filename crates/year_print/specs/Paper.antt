@@ -1,6 +1,7 @@
 -- What the program answers to its input, and the refusal that a printing function answers, or 0 if it refuses nothing.
-use Rattle.std.specs.Prelude.{Bool, List, ◌++◌, ℕ}
-use Rattle.answers.specs.Answer.{Answer, refusal_in}
+use Rattle.std.specs.Prelude.{Bool, List, ◌++◌, Option, Some, None, ℕ}
+use Rattle.answers.specs.declared.Refusal.{Refusal}
+use Rattle.answers.specs.Answer.{Answer, refusal_in, number_of}
 use Rattle.answers.specs.Conditions.{asking}
 use Rattle.calendar_range.specs.Range.{rules_for, year_conditions}
 use Rattle.calendar_year.specs.declared.Year.{Year}
@@ -24,3 +25,8 @@ answer_refusal bytes = refusal_in (answer_of bytes)
 -- of a year that is asked for by numbers
 unfoldable pub year_refusal : ℕ → ℕ → ℕ
 year_refusal calendar year = refusal_in (year_of calendar year)
+
+-- of what was refused, if anything
+abbrev pub refusal_number : Option Refusal → ℕ
+refusal_number None = 0
+refusal_number (Some refusal) = number_of refusal

@@ -2,80 +2,86 @@
 #![tactic(auto)]
 
 ghost use Rattle.std.specs.Prelude.{◌≡◌, IfOk};
-ghost use Rattle.year_print.specs.Paper.{year_refusal, answer_refusal};
+ghost use Rattle.answers.specs.Answer.{told_as};
+ghost use Rattle.year_print.specs.Paper.{answer_of, answer_refusal, refusal_number};
 
-use calendar::{Month, Year};
-use std::io;
-use year_line::{Line, LineAnswer};
+use calendar::{Month, Refusal, Year};
+use std::{fmt, io};
 
-pub fn print_number(rt: &impl Print, number: u64) -> io::Result<()> {
-    print!(rt; "{number}")
+// A year with its calendar and number. It is printed as its head: calendar, number, days and leap number.
+#[derive(Clone, Copy, Debug, PartialEq, Eq)]
+pub struct NamedYear {
+    pub calendar: u64,
+    pub number: u64,
+    pub year: Year,
 }
 
-pub fn print_after_space(rt: &impl Print, number: u64) -> io::Result<()> {
-    print!(rt; " {number}")
+impl fmt::Display for NamedYear {
+    fn fmt<W: fmt::Write>(&self, f: &mut fmt::Formatter<W>) -> fmt::Result {
+        let NamedYear {
+            calendar,
+            number,
+            year,
+        } = self;
+        write!(f, "{calendar} {number} {} {}", year.days, year.leap)
+    }
 }
 
-pub fn print_line_end(rt: &impl Print) -> io::Result<()> {
-    println!(rt)
-}
+// A month's line: number, leap or not, length, first day and its place in the cycle of sixty.
+#[derive(Clone, Copy)]
+struct Row(Month);
 
-fn print_refusal(rt: &impl Print, refusal: u8) -> io::Result<()> {
-    println!(rt; "refused {refusal}")
-}
-
-// The head of a year: calendar, year, days and leap number.
-pub fn print_head(rt: &impl Print, calendar: u64, number: u64, year: Year) -> io::Result<()> {
-    print_number(rt, calendar)?;
-    print_after_space(rt, number)?;
-    print_after_space(rt, year.days as u64)?;
-    print_after_space(rt, year.leap as u64)
-}
-
-fn print_month(rt: &impl Print, month: Month) -> io::Result<()> {
-    print_number(rt, month.number as u64)?;
-    print_after_space(rt, month.leap as u64)?;
-    print_after_space(rt, month.length as u64)?;
-    print_after_space(rt, month.first_day as u64)?;
-    print_after_space(rt, calendar::cycle_of(month.first_day as u64) as u64)?;
-    print_line_end(rt)
+impl fmt::Display for Row {
+    fn fmt<W: fmt::Write>(&self, f: &mut fmt::Formatter<W>) -> fmt::Result {
+        let month = self.0;
+        write!(
+            f,
+            "{} {} {} {} {}",
+            month.number,
+            u8::from(month.leap),
+            month.length,
+            month.first_day,
+            calendar::cycle_of(u64::from(month.first_day))
+        )
+    }
 }
 
 fn print_months(rt: &impl Print, year: Year) -> io::Result<()> {
-    let months = year.months;
-    for place in 0..13usize {
-        if place < year.count as usize {
-            print_month(rt, months[place])?;
-        }
+    for month in year.listed() {
+        println!(rt; "{}", Row(*month))?;
     }
     Ok(())
 }
 
-// Prints a year, a line for each month, or the refusal.
-fn print_year(rt: &impl Print, line: Line) -> io::Result<u8>
-    ensures { IfOk result (λ refusal. refusal ≡ year_refusal line.calendar line.year) }
+// The year that the first line of the bytes asks for.
+fn asked(bytes: &[u8]) -> Result<NamedYear, Refusal>
+    ensures { told_as (λ named. named.year) result ≡ answer_of bytes.now }
 {
-    let answer = calendar::year_of(line.calendar as u64, line.year as u64);
-    if answer.refusal == 0 {
-        print_head(rt, line.calendar as u64, line.year as u64, answer.year)?;
-        print_line_end(rt)?;
-        print_months(rt, answer.year)?;
-    } else {
-        print_refusal(rt, answer.refusal)?;
-    }
-    Ok(answer.refusal)
+    let line = year_line::line_of(bytes)?;
+    let calendar = u64::from(line.calendar);
+    let number = u64::from(line.year);
+    let year = calendar::year_of(calendar, number)?;
+    Ok(NamedYear {
+        calendar,
+        number,
+        year,
+    })
 }
 
-// Prints the year that the first line of the bytes asks for, or the refusal.
-pub fn print_answer(rt: &impl Print, bytes: &[u8]) -> io::Result<u8>
-    ensures { IfOk result (λ refusal. refusal ≡ answer_refusal bytes.now) }
+// Prints the year that the first line of the bytes asks for, a line for each month, or the refusal. Tells what was refused, if anything.
+#[tactic(auto, unfolding(crate::specs::Paper::answer_refusal))]
+pub fn print_answer(rt: &impl Print, bytes: &[u8]) -> io::Result<Option<Refusal>>
+    ensures { IfOk result (λ refused. refusal_number refused ≡ answer_refusal bytes.now) }
 {
-    let answer = year_line::line_of(bytes);
-    match answer {
-        LineAnswer::Line(line) => print_year(rt, line),
-        LineAnswer::Refused(refusal) => {
-            print_refusal(rt, refusal)?;
-            Ok(refusal)
+    match asked(bytes) {
+        Ok(named) => {
+            println!(rt; "{named}")?;
+            print_months(rt, named.year)?;
+            Ok(None)
+        }
+        Err(refusal) => {
+            println!(rt; "{refusal}")?;
+            Ok(Some(refusal))
         }
     }
 }

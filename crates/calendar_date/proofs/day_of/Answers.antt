@@ -1,5 +1,6 @@
 -- `calendar_date::day_of` meets its contract: it counts from the first day of the month that has the day.
 use Rattle.std.proofs.Common.{◌≡◌, ℕ, Bool, ◌+◌, ◌<◌, ◌≤◌, ◌^◌, sym, arith}
+use Rattle.std.proofs.lemmas.Result.{err_from_is_err_and}
 use Rattle.answers.specs.Answer.{given}
 use Rattle.months_rules.specs.declared.Begun.{Begun}
 use Rattle.months_rules.specs.declared.Calendar.{Calendar}
@@ -31,24 +32,26 @@ day_in_lem c y m leap d k b e =
       zero_to = (edges k).day_zero_lem;
     }
 
-pub returns-in_default : goal.returns-in_default
-returns-in_default c = rw (day_asked, ← c.in_default.ensures, c.month_refusal.ensures, c.in_default.is)
+pub returns-in_err-calendar : goal.returns-in_err-calendar
+returns-in_err-calendar c =
+    let p = err_from_is_err_and c.from_residual.result c.from_residual.ensures.1 in
+    rw (p.1, p.2, day_asked, ← c.in_err-calendar.ensures)
 
 pub overflow_add-result : goal.overflow_add-result
-overflow_add-result c = let d = day_in_lem _ _ _ _ _ _ _ c.in-Found.ensures in omega (arith, d.to, d.start_to, d.zero_to)
+overflow_add-result c = let d = day_in_lem _ _ _ _ _ _ _ c.in_ok-calendar.ensures in omega (arith, d.to, d.start_to, d.zero_to)
 
 pub overflow_sub-result : goal.overflow_sub-result
-overflow_sub-result c = omega (arith, (day_in_lem _ _ _ _ _ _ _ c.in-Found.ensures).from)
+overflow_sub-result c = omega (arith, (day_in_lem _ _ _ _ _ _ _ c.in_ok-calendar.ensures).from)
 
 pub overflow_sub-result-2 : goal.overflow_sub-result-2
 overflow_sub-result-2 c =
-    let d = day_in_lem _ _ _ _ _ _ _ c.in-Found.ensures in
-    rw c.numbers_of.ensures (omega (arith, d.from, d.start_from))
+    let d = day_in_lem _ _ _ _ _ _ _ c.in_ok-calendar.ensures in
+    rw c.numbers.ensures (omega (arith, d.from, d.start_from))
 
 pub overflow_cast-result : goal.overflow_cast-result
 overflow_cast-result c =
-    let d = day_in_lem _ _ _ _ _ _ _ c.in-Found.ensures in
-    rw c.numbers_of.ensures (omega (arith, d.from, d.to, d.start_from, d.start_to))
+    let d = day_in_lem _ _ _ _ _ _ _ c.in_ok-calendar.ensures in
+    rw c.numbers.ensures (omega (arith, d.from, d.to, d.start_from, d.start_to))
 
 pub returns : goal.returns
-returns c = rw (day_asked, ← c.in-Found.ensures, c.numbers_of.ensures)
+returns c = rw (day_asked, ← c.in_ok-calendar.ensures, c.numbers.ensures)

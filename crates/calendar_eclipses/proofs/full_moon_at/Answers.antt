@@ -13,17 +13,17 @@ pub overflow_sub-result : goal.overflow_sub-result
 unfolding rules_of
 overflow_sub-result c =
     let days = rw (c.byo_to_fen-moment.ensures, c.full_moon_sky-sky.ensures) at c.whole_days.ensures in
-    rw (c.numbers_of.ensures, days) (omega (arith, (full_numbered _ c.requires).from))
+    rw (c.numbers.ensures, days) (omega (arith, (full_numbered _ c.requires).from))
 
 pub overflow_cast-result : goal.overflow_cast-result
 unfolding rules_of
 overflow_cast-result c =
     let days = rw (c.byo_to_fen-moment.ensures, c.full_moon_sky-sky.ensures) at c.whole_days.ensures in
     let h = full_numbered _ c.requires in
-    rw (c.numbers_of.ensures, days) (omega (arith, h.from, h.to))
+    rw (c.numbers.ensures, days) (omega (arith, h.from, h.to))
 
 pub returns : goal.returns
 unfolding rules_of full_moon_at
 returns c =
     let days = rw (c.byo_to_fen-moment.ensures, c.full_moon_sky-sky.ensures) at c.whole_days.ensures in
-    rw (c.numbers_of.ensures, days, c.fen_of_day.ensures, c.node_of-node.ensures, c.byo_to_fen-moment.ensures, c.full_moon_sky-sky.ensures)
+    rw (c.numbers.ensures, days, c.fen_of_day.ensures, c.node_of-node.ensures, c.byo_to_fen-moment.ensures, c.full_moon_sky-sky.ensures)

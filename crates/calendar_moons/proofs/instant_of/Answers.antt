@@ -4,4 +4,4 @@ use Rattle.calendar_moons.proofs.instant_of.Goals as goal
 
 pub returns : goal.returns
 unfolding instant_in
-returns c = rw c.numbers_of.ensures at c.julian_date.ensures
+returns c = rw c.numbers.ensures at c.julian_date.ensures

@@ -16,12 +16,12 @@ pub overflow_cast-result : goal.overflow_cast-result
 overflow_cast-result c = omega (arith, c.requires.next_value, (month_room _ _ c.requires.covered_month).at_most)
 
 pub overflow_sub-result-2 : goal.overflow_sub-result-2
-overflow_sub-result-2 c = rw c.numbers_of.ensures (omega (arith, (month_room _ _ c.requires.covered_month).from))
+overflow_sub-result-2 c = rw c.numbers.ensures (omega (arith, (month_room _ _ c.requires.covered_month).from))
 
 pub overflow_cast-result-2 : goal.overflow_cast-result-2
 overflow_cast-result-2 c =
     let r = month_room _ _ c.requires.covered_month in
-    rw c.numbers_of.ensures (omega (arith, r.to, r.at_least))
+    rw c.numbers.ensures (omega (arith, r.to, r.at_least))
 
 pub returns : goal.returns
 returns c =
@@ -32,7 +32,7 @@ returns c =
       c.term_number.ensures,
       c.last_term_by-last.ensures,
       number_of_last r (steady at.calendar) at.month.month,
-      c.numbers_of.ensures,
+      c.numbers.ensures,
       own,
       c.requires.next_value,
     )

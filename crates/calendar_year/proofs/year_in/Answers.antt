@@ -18,46 +18,35 @@ first_is k y told e = rw told at e ∙ ap (begun (rules_of k)) (first_with (rule
 next_is : (k : Calendar) (y : ℕ) {day : ℕ} {b : Begun} → day ≡ mid (rules_of k) ((rules_of k).rain_water y + 12) → b ≡ begun (rules_of k) (month_of (rules_of k) day) → b ≡ begun (rules_of k) (first_month (rules_of k) (y + 1))
 next_is k y told e = rw told at e ∙ ap (begun (rules_of k)) (next_with (rules_of k) (steady k) y)
 
-pub overflow_sub-count : goal.overflow_sub-count
-overflow_sub-count c =
-    let room = year_room c.args.calendar c.args.year c.requires in
-    rw (first_is _ _ c.term_day.ensures c.month_of-first.ensures, next_is _ _ c.term_day-2.ensures c.month_of-next.ensures) (omega (arith, room.at_least))
+pub overflow_sub-days : goal.overflow_sub-days
+overflow_sub-days c =
+    rw (first_is _ _ c.term_day.ensures c.month_of-first.ensures, next_is _ _ c.term_day-2.ensures c.month_of-next.ensures)
+    (year_room c.args.known.calendar c.args.known.year c.args.known.covered).days_from
 
-pub list_to-listing-requires : goal.list_to-listing-requires
-list_to-listing-requires c =
-    let room = year_room c.args.calendar c.args.year c.requires in
+pub overflow_cast-days : goal.overflow_cast-days
+overflow_cast-days c =
+    let room = year_room c.args.known.calendar c.args.known.year c.args.known.covered in
+    rw (first_is _ _ c.term_day.ensures c.month_of-first.ensures, next_is _ _ c.term_day-2.ensures c.month_of-next.ensures)
+    (omega (arith, room.days_from, room.days_to))
+
+pub list_to-requires : goal.list_to-requires
+list_to-requires c =
+    let room = year_room c.args.known.calendar c.args.known.year c.args.known.covered in
     rw (first_is _ _ c.term_day.ensures c.month_of-first.ensures, next_is _ _ c.term_day-2.ensures c.month_of-next.ensures)
     (record {
       first_own = refl;
       end_own = refl;
-      from = after_first c.args.calendar c.args.year c.requires.from;
-      to = before_last c.args.calendar c.args.year c.requires.to;
+      from = after_first c.args.known.calendar c.args.known.year c.args.known.covered.from;
+      to = before_last c.args.known.calendar c.args.known.year c.args.known.covered.to;
       some = omega (arith, room.at_least);
       at_most_13 = room.at_most;
     })
-
-pub overflow_sub-result : goal.overflow_sub-result
-overflow_sub-result c =
-    rw (first_is _ _ c.term_day.ensures c.month_of-first.ensures, next_is _ _ c.term_day-2.ensures c.month_of-next.ensures)
-    (year_room c.args.calendar c.args.year c.requires).days_from
-
-pub overflow_cast-result : goal.overflow_cast-result
-overflow_cast-result c =
-    let room = year_room c.args.calendar c.args.year c.requires in
-    rw (first_is _ _ c.term_day.ensures c.month_of-first.ensures, next_is _ _ c.term_day-2.ensures c.month_of-next.ensures)
-    (omega (arith, room.days_from, room.days_to))
-
-pub overflow_cast-result-2 : goal.overflow_cast-result-2
-overflow_cast-result-2 c =
-    let room = year_room c.args.calendar c.args.year c.requires in
-    rw (first_is _ _ c.term_day.ensures c.month_of-first.ensures, next_is _ _ c.term_day-2.ensures c.month_of-next.ensures)
-    (omega (arith, room.at_most))
 
 pub returns : goal.returns
 unfolding year_in
 returns c =
     rw (
-      c.list_to-listing.ensures,
+      c.list_to.ensures,
       first_is _ _ c.term_day.ensures c.month_of-first.ensures,
       next_is _ _ c.term_day-2.ensures c.month_of-next.ensures,
     )

@@ -1,15 +1,12 @@
--- `calendar_year::year_of` meets its contract: a year that is refused is all zeros, and any other is worked out.
-use Rattle.std.proofs.Common.{sym}
-use Rattle.calendar_range.proofs.Covered.{asked_covered}
+-- `calendar_year::year_of` meets its contract: a year that is found is worked out.
+use Rattle.std.proofs.lemmas.Result.{err_from_is_err_and}
 use Rattle.calendar_year.proofs.Steps.{months_asked}
 use Rattle.calendar_year.proofs.year_of.Goals as goal
 
-pub returns-in_default : goal.returns-in_default
-returns-in_default c =
-    rw (months_asked, ← c.in_default.ensures, c.year_refusal.ensures, c.in_default.is, c.no_year.ensures)
-
-pub year_in-requires : goal.year_in-requires
-year_in-requires c = asked_covered _ _ _ _ (sym c.in-Covered.ensures)
+pub returns-in_err-known : goal.returns-in_err-known
+returns-in_err-known c =
+    let p = err_from_is_err_and c.from_residual.result c.from_residual.ensures.1 in
+    rw (p.1, p.2, months_asked, ← c.in_err-known.ensures)
 
 pub returns : goal.returns
-returns c = rw (months_asked, ← c.in-Covered.ensures, c.year_in.ensures)
+returns c = rw (months_asked, ← c.in_ok-known.ensures, c.year_in.ensures)

@@ -1,21 +1,23 @@
--- `run::open_run` meets its contract: a year that is refused gives a run of zeros, and any other the run of that one year.
+-- `run::open_run` meets its contract: a year that is covered gives the run of that one year.
 use Rattle.std.proofs.Common.{sym, arith}
+use Rattle.std.proofs.lemmas.Result.{err_from_is_err_and}
 use Rattle.answers.specs.Conditions.{asking}
 use Rattle.calendar_range.proofs.Numbers.{calendar_small}
 use Rattle.run.proofs.Steps.{open_asked, opened_room}
 use Rattle.run.proofs.open_run.Goals as goal
 
-pub returns-in_default : goal.returns-in_default
-returns-in_default c =
-    rw (open_asked, ← c.in_default.ensures, c.year_refusal.ensures, c.in_default.is, c.empty_run.ensures)
+pub returns-in_err-known : goal.returns-in_err-known
+returns-in_err-known c =
+    let p = err_from_is_err_and c.from_residual.result c.from_residual.ensures.1 in
+    rw (p.1, p.2, open_asked, ← c.in_err-known.ensures)
 
 pub overflow_cast-calendar : goal.overflow_cast-calendar
 overflow_cast-calendar c =
-    omega (arith, calendar_small c.args.calendar (opened_room _ _ _ _ (sym c.in-Covered.ensures)).known)
+    omega (arith, calendar_small c.args.calendar (opened_room _ _ _ _ (sym c.in_ok-known.ensures)).known)
 
 pub run_of-requires : goal.run_of-requires
-run_of-requires c = opened_room _ _ _ _ (sym c.in-Covered.ensures)
+run_of-requires c = opened_room _ _ _ _ (sym c.in_ok-known.ensures)
 
 pub returns : goal.returns
 unfolding asking
-returns c = rw (open_asked, ← c.in-Covered.ensures, c.run_of.ensures)
+returns c = rw (open_asked, ← c.in_ok-known.ensures, c.run_of.ensures)

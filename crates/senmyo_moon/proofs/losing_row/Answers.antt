@@ -18,13 +18,13 @@ pub overflow_add-result : goal.overflow_add-result
 unfolding upper_rows lower_rows stand_in
 overflow_add-result c =
     elim c.if-upper.branch [
-      | then-upper w ↦ rw (c.row_of-row.ensures, w.if-upper.true) (search rules)
-      | else-upper w ↦ rw (c.row_of-row.ensures, w.if-upper.false) (search rules)
+      | then-upper w ↦ rw (c.row_of-gain.ensures, w.if-upper.true) (search rules)
+      | else-upper w ↦ rw (c.row_of-gain.ensures, w.if-upper.false) (search rules)
     ]
 
 pub returns : goal.returns
 returns c =
     elim c.if-upper.branch [
-      | then-upper w ↦ rw c.row_of-row.ensures (lost c.args.upper _ (rw w.if-upper.true w.loss-is))
-      | else-upper w ↦ rw c.row_of-row.ensures (lost c.args.upper _ (rw w.if-upper.false w.loss-is))
+      | then-upper w ↦ rw c.row_of-gain.ensures (lost c.args.upper _ (rw w.if-upper.true w.loss-is))
+      | else-upper w ↦ rw c.row_of-gain.ensures (lost c.args.upper _ (rw w.if-upper.false w.loss-is))
     ]
