@@ -3,6 +3,8 @@ use mathlib.Core.Path.{◌≡◌, refl, sym, ap, ◌∙◌}
 use mathlib.Core.Bool.{false≢true}
 use Prim.Native.Nat.{ℕ}
 use Rattle.std.specs.Prelude.{List, [], ◌∷◌, get_or, Result, Ok, Err}
+use Rattle.std.specs.Result.{IsErrAnd}
+use Rattle.std.proofs.lemmas.Result.{err_from_is_err_and}
 use Rattle.answers.specs.declared.Refusal.{Refusal}
 use Rattle.answers.specs.declared.Refusal.TheVariants.{NoSuchCalendar, YearNotCovered, NoSuchMonth, NoSuchDay, DayNotCovered, WrongSize, WrongTagOrLength, WrongField, RunFull, RunOfOneYear, NoRun, NoLine, EclipseOfGenka, NoEclipse}
 use Rattle.answers.specs.Answer.{Answer, given, refused, number_of, told, told_as}
@@ -63,3 +65,10 @@ one_told (Ok a) (Ok b) e = ap Ok (one_given a b e)
 one_told (Ok a) (Err s) e = absurd (not_refused _ _ e)
 one_told (Err r) (Ok b) e = absurd (not_given _ _ e)
 one_told (Err r) (Err s) e = ap Err (one_number r s (one_refusal _ _ e))
+
+-- what `?` hands on is told as it came
+pub handed_on : {A : Type 0} (refusal : Refusal) (r : Result A Refusal) → IsErrAnd r (λ e. e ≡ refusal) → told r ≡ refused (number_of refusal)
+handed_on refusal r h = let p = err_from_is_err_and r h in rw (p.1, p.2)
+
+pub handed_on_as : {A B : Type 0} (f : A → B) (refusal : Refusal) (r : Result A Refusal) → IsErrAnd r (λ e. e ≡ refusal) → told_as f r ≡ refused (number_of refusal)
+handed_on_as f refusal r h = let p = err_from_is_err_and r h in rw (p.1, p.2)

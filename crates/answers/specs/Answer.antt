@@ -24,6 +24,8 @@ left_in before (refused n) = before
 
 -- ---- a `Result`, as an answer
 
+-- the number of each refusal: calendar, year, month, day of a month, day outside; a record's size, tag or length, other field; a run full, of one year, none;
+-- the program's line; an eclipse of Genka (01), a month without an eclipse (02)
 abbrev pub number_of : Refusal → ℕ
 number_of NoSuchCalendar = 1
 number_of YearNotCovered = 2
@@ -40,6 +42,7 @@ number_of NoLine = 12
 number_of EclipseOfGenka = 13
 number_of NoEclipse = 14
 
+-- what is given, or the refusal's number
 abbrev pub told : {A : Type 0} → Result A Refusal → Answer A
 told (Ok a) = given a
 told (Err refusal) = refused (number_of refusal)

@@ -1,6 +1,6 @@
 -- `calendar_date::date_of` meets its contract: after the calendar, it asks whether the day is covered, and gives the date on it.
 use Rattle.std.proofs.Common.{◌≡◌, ℕ, ◌+◌, ◌<◌, ◌≤◌, ◌^◌, arith}
-use Rattle.std.proofs.lemmas.Result.{err_from_is_err_and}
+use Rattle.answers.proofs.Answers.{handed_on}
 use borrow.Author.Tests.{le-leb, lt-leb, lt-ltb, le-ltb}
 use Rattle.answers.specs.Conditions.{asking}
 use Rattle.months_rules.specs.declared.Calendar.{Calendar}
@@ -23,9 +23,7 @@ in_word : (k : Calendar) (n : CalendarNumbers) (day : ℕ) → n ≡ numbers_of 
 in_word k n day told from to = omega (arith, (covered k n day told from to).to, (edges k).last_day, (edges k).day_zero_lem)
 
 pub returns-in_err-calendar : goal.returns-in_err-calendar
-returns-in_err-calendar c =
-    let p = err_from_is_err_and c.from_residual.result c.from_residual.ensures.1 in
-    rw (p.1, p.2, date_asked, ← c.in_err-calendar.ensures)
+returns-in_err-calendar c = rw (handed_on _ _ c.from_residual.ensures.1, date_asked, ← c.in_err-calendar.ensures)
 
 pub returns-then-day-numbers : goal.returns-then-day-numbers
 unfolding asking

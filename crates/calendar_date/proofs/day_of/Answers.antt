@@ -1,6 +1,6 @@
 -- `calendar_date::day_of` meets its contract: it counts from the first day of the month that has the day.
 use Rattle.std.proofs.Common.{◌≡◌, ℕ, Bool, ◌+◌, ◌<◌, ◌≤◌, ◌^◌, sym, arith}
-use Rattle.std.proofs.lemmas.Result.{err_from_is_err_and}
+use Rattle.answers.proofs.Answers.{handed_on}
 use Rattle.answers.specs.Answer.{given}
 use Rattle.months_rules.specs.declared.Begun.{Begun}
 use Rattle.months_rules.specs.declared.Calendar.{Calendar}
@@ -33,9 +33,7 @@ day_in_lem c y m leap d k b e =
     }
 
 pub returns-in_err-calendar : goal.returns-in_err-calendar
-returns-in_err-calendar c =
-    let p = err_from_is_err_and c.from_residual.result c.from_residual.ensures.1 in
-    rw (p.1, p.2, day_asked, ← c.in_err-calendar.ensures)
+returns-in_err-calendar c = rw (handed_on _ _ c.from_residual.ensures.1, day_asked, ← c.in_err-calendar.ensures)
 
 pub overflow_add-result : goal.overflow_add-result
 overflow_add-result c = let d = day_in_lem _ _ _ _ _ _ _ c.in_ok-calendar.ensures in omega (arith, d.to, d.start_to, d.zero_to)

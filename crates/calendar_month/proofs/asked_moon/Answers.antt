@@ -1,6 +1,6 @@
 -- `calendar_month::asked_moon` meets its contract: month `number` has the mid-term of that number, and a leap month is behind it if the next mid-term is not.
-use Rattle.std.proofs.Common.{arith}
-use Rattle.std.proofs.lemmas.Result.{err_from_is_err_and}
+use Rattle.std.proofs.Common.{◌∙◌, arith}
+use Rattle.answers.proofs.Answers.{handed_on}
 use borrow.Author.Tests.{le-leb, lt-leb}
 use Rattle.answers.specs.Conditions.{asking}
 use Rattle.calendar_month.specs.Room.{moon_number}
@@ -9,9 +9,7 @@ use Rattle.calendar_month.proofs.LeapMonths.{regular_small, leap_behind, none_be
 use Rattle.calendar_month.proofs.asked_moon.Goals as goal
 
 pub returns-in_err-known : goal.returns-in_err-known
-returns-in_err-known c =
-    let p = err_from_is_err_and c.from_residual.result c.from_residual.ensures.1 in
-    rw (p.1, p.2, moon_asked_lem, ← c.in_err-known.ensures)
+returns-in_err-known c = handed_on _ _ c.from_residual.ensures.1 ∙ rw (moon_asked_lem, ← c.in_err-known.ensures)
 
 pub returns-then-number-lt1 : goal.returns-then-number-lt1
 unfolding asking

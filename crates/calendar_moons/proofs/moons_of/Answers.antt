@@ -1,6 +1,6 @@
 -- `calendar_moons::moons_of` meets its contract: a month that is found is covered, so that both its moons have Julian dates.
 use Rattle.std.proofs.Common.{sym}
-use Rattle.std.proofs.lemmas.Result.{err_from_is_err_and}
+use Rattle.answers.proofs.Answers.{handed_on}
 use Rattle.calendar_month.proofs.Covered.{asked_moon_covered}
 use Rattle.calendar_moons.specs.Instants.{moons_of}
 use Rattle.calendar_moons.specs.Room.{New, Full}
@@ -10,9 +10,7 @@ use Rattle.calendar_moons.proofs.moons_of.Goals as goal
 
 pub returns-in_err-calendar : goal.returns-in_err-calendar
 unfolding moons_of
-returns-in_err-calendar c =
-    let p = err_from_is_err_and c.from_residual.result c.from_residual.ensures.1 in
-    rw (p.1, p.2, of_asked, ← c.in_err-calendar.ensures)
+returns-in_err-calendar c = rw (handed_on _ _ c.from_residual.ensures.1, of_asked, ← c.in_err-calendar.ensures)
 
 pub instant_of-requires : goal.instant_of-requires
 instant_of-requires c = rw c.new_moon.ensures (moon_dated _ _ (asked_moon_covered _ _ _ _ _ (sym c.in_ok-calendar.ensures)) New)

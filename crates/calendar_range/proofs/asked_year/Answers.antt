@@ -1,12 +1,13 @@
 -- `calendar_range::asked_year` meets its contract: after the calendar, it asks for the first and the last covered year.
-use Rattle.std.proofs.lemmas.Result.{err_from_is_err_and}
+use Rattle.answers.proofs.Answers.{handed_on_as}
 use borrow.Author.Tests.{le-leb, lt-leb}
 use Rattle.answers.specs.Conditions.{asking}
+use Rattle.calendar_range.specs.Answers.{known_year}
 use Rattle.calendar_range.proofs.Steps.{year_asked_lem}
 use Rattle.calendar_range.proofs.asked_year.Goals as goal
 
 pub returns-in_err-calendar : goal.returns-in_err-calendar
-returns-in_err-calendar c = let p = err_from_is_err_and c.from_residual.result c.from_residual.ensures.1 in rw (p.1, p.2, year_asked_lem, ← c.in_err-calendar.ensures)
+returns-in_err-calendar c = rw (handed_on_as known_year _ _ c.from_residual.ensures.1, year_asked_lem, ← c.in_err-calendar.ensures)
 
 pub returns-then-year-numbers : goal.returns-then-year-numbers
 unfolding asking

@@ -1,15 +1,13 @@
 -- `run::open_run` meets its contract: a year that is covered gives the run of that one year.
 use Rattle.std.proofs.Common.{sym, arith}
-use Rattle.std.proofs.lemmas.Result.{err_from_is_err_and}
+use Rattle.answers.proofs.Answers.{handed_on}
 use Rattle.answers.specs.Conditions.{asking}
 use Rattle.calendar_range.proofs.Numbers.{calendar_small}
 use Rattle.run.proofs.Steps.{open_asked, opened_room}
 use Rattle.run.proofs.open_run.Goals as goal
 
 pub returns-in_err-known : goal.returns-in_err-known
-returns-in_err-known c =
-    let p = err_from_is_err_and c.from_residual.result c.from_residual.ensures.1 in
-    rw (p.1, p.2, open_asked, ← c.in_err-known.ensures)
+returns-in_err-known c = rw (handed_on _ _ c.from_residual.ensures.1, open_asked, ← c.in_err-known.ensures)
 
 pub overflow_cast-calendar : goal.overflow_cast-calendar
 overflow_cast-calendar c =
