@@ -9,7 +9,7 @@ use Rattle.run.proofs.run_date_of.Reads as run_date_of
 use Rattle.run.proofs.run_day_of.Reads as run_day_of
 
 pub one_open_run : OneResult open_run.Learnt
-one_open_run _ _ x y _ _ p q = one_told x y (one p q)
+one_open_run _ _ x y _ _ p q = one_told x y (one p.0 q.0)
 
 pub one_extend_run : OneResult extend_run.Learnt
 one_extend_run _ _ x y _ _ p q = one_told x y (one p.0 q.0)

@@ -3,7 +3,9 @@ use mathlib.Core.Path.{◌≡◌, refl}
 use mathlib.Core.Bool.{Bool, true, false}
 use Prim.Native.Nat.{ℕ, ◌+◌, ◌-◌}
 use lib.Dec.{ltb}
+use Rattle.std.specs.Prelude.{Result}
 use Rattle.answers.specs.Answer.{given, refused, left_in}
+use Rattle.answers.specs.declared.Refusal.{Refusal}
 use Rattle.answers.specs.Conditions.{AllHold, FirstFails, Exactly}
 use Rattle.answers.proofs.Conditions.{given_exactly, refused_exactly}
 use Rattle.months_rules.specs.Rules.{Rules}
@@ -15,7 +17,7 @@ use Rattle.run_content.specs.declared.Run.{Run}
 use Rattle.run_content.specs.Runs.{run_of, no_run}
 use Rattle.run_examination.specs.Examined.{can_be_kept, is_run}
 use Rattle.run_lookup.specs.Held.{holds_year, holds_day}
-use Rattle.run.specs.Calls.{open_of, extend_conditions, extend_of, drop_conditions, drop_of, run_day_conditions, run_day_of, run_date_conditions, run_date_of}
+use Rattle.run.specs.Calls.{Unwrapped, open_of, extend_conditions, extend_of, drop_conditions, drop_of, run_day_conditions, run_day_of, run_date_conditions, run_date_of}
 
 -- ---- opening
 
@@ -120,6 +122,10 @@ module _ (run : Run) (n : ℕ) where
 -- a refused opening leaves it, where nothing else was held
 pub zeros_opened : (c y n : ℕ) → open_of c y ≡ refused n → left_in no_run (open_of c y) ≡ no_run
 zeros_opened c y n e = rw e
+
+-- .. and that is what `unwrap_or_default` gives of it
+pub zeros_unwrapped : (c y n : ℕ) (opened : Result Run Refusal) → Unwrapped opened (left_in no_run (open_of c y)) → open_of c y ≡ refused n → Unwrapped opened no_run
+zeros_unwrapped c y n opened unwrapped e = rw (zeros_opened c y n e) at unwrapped
 
 zeros_no_run : is_run no_run ≡ false
 unfolding is_run can_be_kept

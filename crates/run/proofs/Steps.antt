@@ -4,7 +4,9 @@ use mathlib.Core.Bool.{Bool, true, false, ◌&&◌}
 use mathlib.Core.List.{[], ◌∷◌}
 use Prim.Native.Nat.{ℕ, ◌+◌, ◌<◌}
 use native.Mathlib.Omega.{arith}
-use Rattle.answers.specs.Answer.{given, refused, then}
+use Rattle.std.specs.Prelude.{Result, Ok, Err}
+use Rattle.answers.specs.Answer.{given, refused, told, then, left_in}
+use Rattle.answers.specs.declared.Refusal.{Refusal}
 use Rattle.answers.specs.Conditions.{asking}
 use Rattle.answers.proofs.Answers.{not_given, one_refusal}
 use Rattle.answers.proofs.Conditions.{then_asking, given_exactly}
@@ -12,11 +14,11 @@ use Rattle.months_rules.specs.declared.Calendar.{Calendar}
 use Rattle.calendar_range.specs.Range.{is_calendar, rules_for, is_covered, year_asked}
 use Rattle.calendar_range.proofs.Covered.{asked_given, covered_year_told}
 use Rattle.run_content.specs.declared.Run.{Run}
-use Rattle.run_content.specs.Runs.{run_of}
+use Rattle.run_content.specs.Runs.{run_of, no_run}
 use Rattle.run_content.specs.Room.{CoveredYears, Kept, Extendable}
 use Rattle.run_content.proofs.Content.{its_rules}
 use Rattle.run_examination.specs.Examined.{is_run}
-use Rattle.run.specs.Calls.{examined_of, open_of}
+use Rattle.run.specs.Calls.{Unwrapped, examined_of, open_of}
 
 -- ---- opening: a year that was asked for, and is covered
 
@@ -30,6 +32,11 @@ opened_room c y k x e =
     let covered = covered_year_told (rules_for c) y g.0.1.0 in
     let year : x ≡ y = sym (ap (λ (a : Calendar × ℕ). a.1) g.1) in
     record { known = g.0.0; from = omega (arith, covered.from, year); to = omega (arith, covered.to, year); at_most_14 = omega arith }
+
+-- what is told of an opening tells what `unwrap_or_default` gives of it
+pub unwrapped_told : (c y : ℕ) (opened : Result Run Refusal) → told opened ≡ open_of c y → Unwrapped opened (left_in no_run (open_of c y))
+unwrapped_told c y (Ok x) e run found = rw (← e, found)
+unwrapped_told c y (Err refusal) e run zeros = rw (← e, zeros)
 
 -- ---- a run that was examined
 

@@ -1,13 +1,15 @@
 -- What the calls on a kept run answer, with their refusals (01, "The kept run"; "Refusal numbers").
-use Rattle.std.specs.Prelude.{Bool, List, [], ◌∷◌, ℕ, ◌+◌, ◌-◌, ltb}
+use Rattle.std.specs.Prelude.{Bool, List, [], ◌∷◌, ℕ, ◌+◌, ◌-◌, ◌≡◌, ltb, Result}
+use Rattle.std.specs.Result.{ResultUnwrapsOrElse}
 use Rattle.answers.specs.Answer.{Answer}
+use Rattle.answers.specs.declared.Refusal.{Refusal}
 use Rattle.answers.specs.Conditions.{asking}
 use Rattle.calendar_range.specs.Range.{rules_for, is_covered, year_conditions}
 use Rattle.calendar_month.specs.Asked.{month_named}
 use Rattle.calendar_date.specs.declared.Date.{Date}
 use Rattle.calendar_date.specs.Dates.{day_in, date_in}
 use Rattle.run_content.specs.declared.Run.{Run}
-use Rattle.run_content.specs.Runs.{run_of}
+use Rattle.run_content.specs.Runs.{run_of, no_run}
 use Rattle.run_examination.specs.Examined.{is_run}
 use Rattle.run_lookup.specs.Held.{day_in_run_conditions, date_in_run_conditions}
 
@@ -20,6 +22,10 @@ examined_of run = asking ((is_run run, 11) ∷ []) run
 -- the run of one year
 unfoldable pub open_of : ℕ → ℕ → Answer Run
 open_of c y = asking (year_conditions c y) (run_of c y 1)
+
+-- `unwrap_or_default` gives a run, of what opening answers: the default of a run is that of zeros
+abbrev pub Unwrapped : Result Run Refusal → Run → Type 0
+Unwrapped opened run = (x : Run) → ResultUnwrapsOrElse opened (λ zeros. zeros ≡ no_run) x → x ≡ run
 
 -- past the last covered year it is 2, even at 14 years
 abbrev pub extend_conditions : Run → List (Bool × ℕ)

@@ -3,7 +3,8 @@
 
 ghost use Rattle.std.specs.Prelude.{◌≡◌};
 ghost use Rattle.answers.specs.Answer.{told, told_as, done, left_in};
-ghost use Rattle.run.specs.Calls.{examined_of, open_of, extend_of, drop_of, run_day_of, run_date_of};
+ghost use Rattle.run_content.specs.Runs.{no_run};
+ghost use Rattle.run.specs.Calls.{Unwrapped, examined_of, open_of, extend_of, drop_of, run_day_of, run_date_of};
 ghost use Rattle.run_lookup.specs.declared.KeptRun.{KeptRun};
 
 pub use answers::Refusal;
@@ -11,9 +12,10 @@ pub use calendar_date::Date;
 pub use run_content::Run;
 use run_lookup::KeptRun;
 
-// The run of one year.
+// The run of one year. Of what it answers `unwrap_or_default` gives that run, or, where it is refused, the run of zeros.
 pub fn open_run(calendar: u64, year: u64) -> Result<Run, Refusal>
-    ensures { told result ≡ open_of calendar year }
+    ensures opened { told result ≡ open_of calendar year }
+    ensures unwrapped { Unwrapped result (left_in no_run (open_of calendar year)) }
 {
     let known = calendar_range::asked_year(calendar, year)?;
     Ok(run_content::run_of(calendar as u8, known.year, 1))

@@ -206,7 +206,9 @@ impl Term {
     }
 }
 
-// The Sun's correction at a moment counted from the start of the count, in fen.
+// The Sun's correction at a moment counted from the start of the count, in fen. (Kept out of line: where the compiler takes it into a new moon's, that is too
+// large to stand in a look-up, and Genka's look-ups, which need none, pay for the call.)
+#[inline(never)]
 pub fn sun_of(at: Byo) -> i64
     ensures { result ≡ sun_of at }
 {

@@ -7,7 +7,7 @@ use Rattle.year_line.proofs.number_of.Goals as goal
 
 pub returns-then-not-is_ascii_digit : goal.returns-then-not-is_ascii_digit
 returns-then-not-is_ascii_digit c =
-    let other : is_digit (get_or c.args.bytes.now c.loop-byte.byte-index 0) ≡ false = cc in
+    let other : is_digit (get_or c.args.bytes.now c.loop-byte.byte-index 0) ≡ false = grind arith in
     no_digit _ _ _ c.loop-byte.invariant c.loop-byte-test.true other
 
 pub overflow_mul-value : goal.overflow_mul-value
