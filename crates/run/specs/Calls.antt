@@ -23,7 +23,7 @@ examined_of run = asking ((is_run run, 11) ∷ []) run
 unfoldable pub open_of : ℕ → ℕ → Answer Run
 open_of c y = asking (year_conditions c y) (run_of c y 1)
 
--- `unwrap_or_default` gives a run, of what opening answers: the default of a run is that of zeros
+-- the run that opening returns, where a refused one returns one of zeros: it is what `unwrap_or_default` gives of the answer, for that is a run's default
 abbrev pub Unwrapped : Result Run Refusal → Run → Type 0
 Unwrapped opened run = (x : Run) → ResultUnwrapsOrElse opened (λ zeros. zeros ≡ no_run) x → x ≡ run
 
